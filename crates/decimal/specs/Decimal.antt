@@ -1,0 +1,53 @@
+-- Decimal numbers in text (01, Text, numbers, addresses): an optional '+', at least one digit, no overflow; leading zeros allowed.
+use Prim.Native.Nat.{ℕ, _+_, _-_, _*_, _^_}
+use mathlib.Core.List.{List, [], _∷_}
+use mathlib.Core.Bool.{Bool, cond, _&&_}
+use mathlib.Core.Option.{Option, some, none}
+use lib.Dec.{ltb, leb, eqb}
+use Rattle.decimal.specs.declared.U32Read.{U32Read}
+use Rattle.decimal.specs.declared.U32Read.the-variants.{Number as Number32, Nothing as Nothing32}
+use Rattle.decimal.specs.declared.U64Read.{U64Read}
+use Rattle.decimal.specs.declared.U64Read.the-variants.{Number as Number64, Nothing as Nothing64}
+
+-- '0' to '9'
+abbrev pub isDigit : ℕ → Bool
+isDigit b = leb 48 b && leb b 57
+
+-- the number that the digits s make when they are written behind those of v; none where a byte of s is no digit
+unfoldable pub behind : ℕ → List ℕ → Option ℕ
+behind v [] = some v
+behind v (b ∷ s) = let r = behind (v * 10 + (b - 48)) s in cond (isDigit b) r none
+
+-- at least one digit: the number, however large
+unfoldable pub digits : List ℕ → Option ℕ
+digits [] = none
+digits (b ∷ s) = behind 0 (b ∷ s)
+
+-- an optional '+' in front
+unfoldable pub unsigned : List ℕ → Option ℕ
+unsigned [] = none
+unsigned (b ∷ s) = cond (eqb b 43) (digits s) (digits (b ∷ s))
+
+-- no overflow: only a number below k
+abbrev pub below : ℕ → Option ℕ → Option ℕ
+below k (some n) = cond (ltb n k) (some n) none
+below k none = none
+
+abbrev pub as32 : Option ℕ → U32Read
+as32 (some n) = Number32 n
+as32 none = Nothing32
+
+abbrev pub as64 : Option ℕ → U64Read
+as64 (some n) = Number64 n
+as64 none = Nothing64
+
+-- digits alone, read as a u64
+abbrev pub readDigits : List ℕ → U64Read
+readDigits s = as64 (below (2 ^ 64) (digits s))
+
+-- the text read as a u32, and as a u64
+abbrev pub readU32 : List ℕ → U32Read
+readU32 s = as32 (below (2 ^ 32) (unsigned s))
+
+abbrev pub readU64 : List ℕ → U64Read
+readU64 s = as64 (below (2 ^ 64) (unsigned s))
