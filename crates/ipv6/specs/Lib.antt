@@ -1,0 +1,2 @@
+pub mod Ipv6
+pub mod Groups

@@ -1,0 +1,4 @@
+pub mod Writing
+pub mod RoundTrip
+pub mod Rfc5952
+pub mod Starred

@@ -1,0 +1,40 @@
+use borrow.Author.Needs.{needs}
+use Rattle.network_display.proofs.Writing.{written-prefix}
+use Rattle.network_display.proofs.write_prefix.Statement.{statement}
+use Rattle.network_display.proofs.write_prefix.Tie as tie
+use Rattle.network_display.proofs.write_prefix.Reads as reads
+use Rattle.network_display.proofs.write_prefix.Lts as lts
+use Rattle.decimal.proofs.write_byte.Reads as write-byte-reads
+use Rattle.decimal.proofs.write_u32.Reads as write-u32-reads
+use Rattle.network_display.proofs.write_address.Reads as write-address-reads
+
+ruleset laws = written-prefix
+
+write-address-requires : tie.Need-write-address-requires
+write-address-requires c κs = search (laws, needs)
+
+write-byte-requires : tie.Need-write-byte-requires
+write-byte-requires c κs = search (laws, needs)
+
+cast-write-u32 : tie.Need-cast-write-u32
+cast-write-u32 c = search (laws, needs)
+
+write-u32-requires : tie.Need-write-u32-requires
+write-u32-requires c κs = search (laws, needs)
+
+same-length : tie.Need-same-length
+same-length c = search (laws, needs)
+
+returns : tie.Need-returns
+returns c = search (laws, needs)
+
+pub write-prefix-spec : {M : Type 1} → statement M
+write-prefix-spec =
+    tie.close
+    (tie.spec
+    write-address-requires
+    write-byte-requires
+    cast-write-u32
+    write-u32-requires
+    same-length
+    returns)
