@@ -1,0 +1,5 @@
+pub mod Whole
+pub mod Bits
+pub mod Callers
+pub mod Answers
+pub mod Inverse
