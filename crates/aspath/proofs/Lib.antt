@@ -1,0 +1,5 @@
+pub mod Ends
+pub mod Lists
+pub mod Queries
+pub mod Record
+pub mod Walk

@@ -1,0 +1,4 @@
+pub mod Examples
+pub mod Lists
+pub mod Routing
+pub mod Same

@@ -1,0 +1,69 @@
+use mathlib.Core.Path.{_≡_}
+use Prim.Native.Nat.{_-_, _≤_}
+use lib.ListN.{length, drop}
+use Rattle.aspath_equivalence.specs.Routing.{sameNumbers}
+use Rattle.aspath_equivalence.proofs.Same.{lengths-differ, number-differs, number-same, all-same}
+use Rattle.aspath_equivalence.proofs.same_u32.Statement.{statement}
+use Rattle.aspath_equivalence.proofs.same_u32.Tie as tie
+use Rattle.aspath_equivalence.proofs.same_u32.Reads as reads
+use Rattle.aspath_equivalence.proofs.same_u32.Lts as lts
+use borrow.Author.Needs.{needs}
+
+ruleset laws = (lengths-differ, number-differs, number-same, all-same)
+
+abbrev Inv-loop : tie.InvT-loop
+Inv-loop a b i₀ i = (i ≤ length a) × (sameNumbers a b ≡ sameNumbers (drop i a) (drop i b))
+
+abbrev μ-loop : tie.MeasureT-loop
+μ-loop a b i₀ i = length a - i
+
+returns : tie.Need-returns Inv-loop μ-loop
+returns c = search (laws, needs)
+
+loop-holds : tie.Need-loop-holds Inv-loop μ-loop
+loop-holds c = search (laws, needs)
+
+mul-if2 : tie.Need-mul-if2 Inv-loop μ-loop
+mul-if2 c = search (laws, needs)
+
+shared-slice-read-if2 : tie.Need-shared-slice-read-if2 Inv-loop μ-loop
+shared-slice-read-if2 c = search (laws, needs)
+
+mul-if2-2 : tie.Need-mul-if2-2 Inv-loop μ-loop
+mul-if2-2 c = search (laws, needs)
+
+shared-slice-read-if2-2 : tie.Need-shared-slice-read-if2-2 Inv-loop μ-loop
+shared-slice-read-if2-2 c = search (laws, needs)
+
+returns-2 : tie.Need-returns-2 Inv-loop μ-loop
+returns-2 c = search (laws, needs)
+
+add-i : tie.Need-add-i Inv-loop μ-loop
+add-i c = search (laws, needs)
+
+loop-less : tie.Need-loop-less Inv-loop μ-loop
+loop-less c = search (laws, needs)
+
+loop-again : tie.Need-loop-again Inv-loop μ-loop
+loop-again c = search (laws, needs)
+
+returns-3 : tie.Need-returns-3 Inv-loop μ-loop
+returns-3 c = search (laws, needs)
+
+pub same-u32-spec : {M : Type 1} → statement M
+same-u32-spec =
+    tie.close
+    (tie.spec
+    Inv-loop
+    μ-loop
+    returns
+    loop-holds
+    mul-if2
+    shared-slice-read-if2
+    mul-if2-2
+    shared-slice-read-if2-2
+    returns-2
+    add-i
+    loop-less
+    loop-again
+    returns-3)

@@ -1,0 +1,15 @@
+pub mod Answers
+pub mod Calls
+pub mod Compacting
+pub mod Deduping
+pub mod Entries
+pub mod Examples
+pub mod Join
+pub mod Merging
+pub mod Moves
+pub mod Normal
+pub mod Result
+pub mod Scan
+pub mod Sets
+pub mod Steps
+pub mod Whole

@@ -1,0 +1,3 @@
+pub mod Joined
+pub mod Routes
+pub mod Runs
