@@ -1,0 +1,13 @@
+pub mod ListLaws
+pub mod Scan
+pub mod Trace
+pub mod ElementLaws
+pub mod Joined
+pub mod Position
+pub mod Fits
+pub mod Refinement
+pub mod Demand3
+pub mod Alone
+pub mod End
+pub mod LineLoop
+pub mod Example
