@@ -1,0 +1,21 @@
+use borrow.Author.Needs.{needs}
+use Rattle.elem.proofs.Spoilt.{told}
+use Rattle.elem.proofs.is_spoilt_element.Statement.{statement}
+use Rattle.elem.proofs.is_spoilt_element.Tie as tie
+use Rattle.elem.proofs.is_spoilt_element.Reads as reads
+use Rattle.elem.proofs.is_spoilt_element.Lts as lts
+use Rattle.network.proofs.is_valid_prefix.Reads as is-valid-prefix-reads
+use Rattle.seconds.proofs.is_timestamp.Reads as is-timestamp-reads
+
+is-valid-prefix-requires : tie.Need-is-valid-prefix-requires
+is-valid-prefix-requires c κs = search needs
+
+is-timestamp-requires : tie.Need-is-timestamp-requires
+is-timestamp-requires c κs = search needs
+
+returns : tie.Need-returns
+returns c = search (told, needs)
+
+pub is-spoilt-element-spec : {M : Type 1} → statement M
+is-spoilt-element-spec =
+    tie.close (tie.spec is-valid-prefix-requires is-timestamp-requires returns)

@@ -1,0 +1,318 @@
+-- Laws of an element's line: measured, written, and its fields joined.
+use mathlib.Core.Path.{_≡_, refl, sym, ap, _∙_}
+use mathlib.Core.List.{List, [], _∷_, _++_, append-assoc, append-nil}
+use mathlib.Core.Bool.{Bool, true, false, cond}
+use mathlib.Core.Option.{Option, some, none}
+use Prim.Native.Nat.{ℕ, suc, _+_, _-_, _≤_, _<_}
+use native.Mathlib.Omega.{arith}
+use lib.ListN.{length, getD, take, drop, length-append}
+use lib.Dec.{leb}
+use borrow.Author.Tests.{le-leb, lt-leb, leb-true, leb-false}
+use Rattle.scan.specs.Ascii.{ascii}
+use Rattle.decimal.specs.Printed.{decimal}
+use Rattle.decimal.specs.Output.{Written, front, answer}
+use Rattle.decimal.proofs.Output.{then, nothing, kept, wrote, whole, too-short, room-all}
+use Rattle.decimal.specs.declared.Put.the-variants as put
+use Rattle.decimal.specs.declared.U32Read.{U32Read}
+use Rattle.decimal.specs.declared.U32Read.the-variants as read
+use Rattle.network.specs.declared.Asn.{Asn}
+use Rattle.network_display.specs.Text.{addressText, prefixText}
+use Rattle.seconds.specs.Seconds.{secondOf, asSecond, timestampText}
+use Rattle.seconds.specs.declared.SecondRead.{SecondRead}
+use Rattle.seconds.specs.declared.SecondRead.the-variants as second
+use Rattle.seconds.proofs.Callers.{second-some, second-none}
+use Rattle.aspath_display.specs.Display.{lead, separated, Measured}
+use Rattle.aspath_display.proofs.Text.{len-more, len-end}
+use Rattle.elem.specs.Element.{spoilt, numbers}
+use Rattle.elem.specs.declared.Element.{Element}
+use Rattle.elem.specs.declared.OptAsn.{OptAsn}
+use Rattle.elem.specs.declared.OptAsn.the-variants as asn
+use Rattle.elem.specs.declared.Origin.{Origin}
+use Rattle.elem.specs.declared.Origin.the-variants.{IGP, EGP, INCOMPLETE}
+use Rattle.elem.specs.declared.OptOrigin.{OptOrigin}
+use Rattle.elem.specs.declared.OptOrigin.the-variants as origin
+use Rattle.elem.proofs.Spoilt.{count-within}
+use Rattle.psv.specs.declared.ElementPut.the-variants.{Wrote, Spoilt, TooShort}
+use Rattle.psv.specs.Line.{headerText, bar, typeText, timeText, sequenceText, asnText, originText, numberText, psvText, displayText, startText, peerText, headText, hopText, attributesText, tailText, lineText, Printed}
+
+-- the type
+type-length : (b : Bool) → length (typeText b) ≡ 1
+type-length true = refl
+type-length false = refl
+
+module _ (b : Bool) (out o : List ℕ) (at a : ℕ) where
+  pub announced : b ≡ true → Written (65 ∷ []) out at o a → Written (typeText b) out at o a
+  announced e w = rw e w
+
+  pub withdrawn : b ≡ false → Written (87 ∷ []) out at o a → Written (typeText b) out at o a
+  withdrawn e w = rw e w
+
+-- the timestamp
+module _ (m : Option ℕ) (r : SecondRead) (told : r ≡ asSecond m) where
+  pub time-length : (s n : ℕ) → r ≡ second.Second s → n ≡ length (timestampText s) → n ≤ 21 → Measured (timeText m) 21 n
+  unfolding timeText
+  time-length s n e h l = rw (second-some m r s told e) (record { is = h; small = l })
+
+  pub no-time-length : r ≡ second.Nothing → Measured (timeText m) 21 0
+  unfolding timeText
+  no-time-length e = rw (second-none m r told e) (record { is = refl; small = omega arith })
+
+  module _ (out : List ℕ) (at : ℕ) where
+    pub time-written : (s : ℕ) (o : List ℕ) (a : ℕ) → r ≡ second.Second s → Written (timestampText s) out at o a → Written (timeText m) out at o a
+    unfolding timeText
+    time-written s o a e w = rw (second-some m r s told e) w
+
+    pub no-time-written : r ≡ second.Nothing → Written (timeText m) out at out at
+    unfolding timeText
+    no-time-written e = rw (second-none m r told e) (nothing out at)
+
+-- what may be missing
+module _ (x : OptAsn) where
+  pub asn-length : (a : Asn) (n : ℕ) → x ≡ asn.Known a → n ≡ length (decimal (a .0)) → n ≤ 20 → Measured (asnText x) 20 n
+  unfolding asnText
+  asn-length a n e h l = rw e (record { is = h; small = l })
+
+  pub no-asn-length : x ≡ asn.Nothing → Measured (asnText x) 20 0
+  unfolding asnText
+  no-asn-length e = rw e (record { is = refl; small = omega arith })
+
+  module _ (out : List ℕ) (at : ℕ) where
+    pub asn-written : (a : Asn) (o : List ℕ) (p : ℕ) → x ≡ asn.Known a → Written (decimal (a .0)) out at o p → Written (asnText x) out at o p
+    unfolding asnText
+    asn-written a o p e w = rw e w
+
+    pub no-asn-written : x ≡ asn.Nothing → Written (asnText x) out at out at
+    unfolding asnText
+    no-asn-written e = rw e (nothing out at)
+
+module _ (x : U32Read) where
+  pub number-length : (v n : ℕ) → x ≡ read.Number v → n ≡ length (decimal v) → n ≤ 20 → Measured (numberText x) 20 n
+  unfolding numberText
+  number-length v n e h l = rw e (record { is = h; small = l })
+
+  pub no-number-length : x ≡ read.Nothing → Measured (numberText x) 20 0
+  unfolding numberText
+  no-number-length e = rw e (record { is = refl; small = omega arith })
+
+  module _ (out : List ℕ) (at : ℕ) where
+    pub number-written : (v : ℕ) (o : List ℕ) (p : ℕ) → x ≡ read.Number v → Written (decimal v) out at o p → Written (numberText x) out at o p
+    unfolding numberText
+    number-written v o p e w = rw e w
+
+    pub no-number-written : x ≡ read.Nothing → Written (numberText x) out at out at
+    unfolding numberText
+    no-number-written e = rw e (nothing out at)
+
+module _ (x : OptOrigin) where
+  pub igp-length : (g : Origin) → x ≡ origin.Known g → g ≡ IGP → Measured (originText x) 10 3
+  unfolding originText
+  igp-length g e f = rw (e, f) (record { is = refl; small = omega arith })
+
+  pub egp-length : (g : Origin) → x ≡ origin.Known g → g ≡ EGP → Measured (originText x) 10 3
+  unfolding originText
+  egp-length g e f = rw (e, f) (record { is = refl; small = omega arith })
+
+  pub incomplete-length : (g : Origin) → x ≡ origin.Known g → g ≡ INCOMPLETE → Measured (originText x) 10 10
+  unfolding originText
+  incomplete-length g e f = rw (e, f) (record { is = refl; small = omega arith })
+
+  pub no-origin-length : x ≡ origin.Nothing → Measured (originText x) 10 0
+  unfolding originText
+  no-origin-length e = rw e (record { is = refl; small = omega arith })
+
+  module _ (out : List ℕ) (at : ℕ) where
+    pub igp-written : (g : Origin) (o : List ℕ) (p : ℕ) → x ≡ origin.Known g → g ≡ IGP → Written (ascii "IGP") out at o p → Written (originText x) out at o p
+    unfolding originText
+    igp-written g o p e f w = rw (e, f) w
+
+    pub egp-written : (g : Origin) (o : List ℕ) (p : ℕ) → x ≡ origin.Known g → g ≡ EGP → Written (ascii "EGP") out at o p → Written (originText x) out at o p
+    unfolding originText
+    egp-written g o p e f w = rw (e, f) w
+
+    pub incomplete-written : (g : Origin) (o : List ℕ) (p : ℕ) → x ≡ origin.Known g → g ≡ INCOMPLETE → Written (ascii "INCOMPLETE") out at o p → Written (originText x) out at o p
+    unfolding originText
+    incomplete-written g o p e f w = rw (e, f) w
+
+    pub no-origin-written : x ≡ origin.Nothing → Written (originText x) out at out at
+    unfolding originText
+    no-origin-written e = rw e (nothing out at)
+
+-- the parts of a line, measured
+module _ (e : Element) where
+  pub head-length : (t p a q : ℕ) → Measured (timeText (secondOf (e .timestamp))) 21 t → p ≡ length (addressText (e .«peer_ip»)) → p ≤ 45
+      → a ≡ length (decimal (e .«peer_asn» .0)) → a ≤ 20 → q ≡ length (prefixText (e .prefix)) → q ≤ 66 → Measured (headText e) 158 (6 + t + p + a + q)
+  unfolding headText peerText startText
+  head-length t p a q w h i j k l m =
+      record { is = simp length-append (omega (arith, w .is, type-length (e .announce))); small = omega (arith, w .small) }
+
+  pub attributes-length : (a b c d : ℕ) → Measured (originText (e .origin)) 10 a → b ≡ length (addressText (e .«next_hop»)) → b ≤ 45
+      → Measured (numberText (e .«local_pref»)) 20 c → Measured (numberText (e .metric)) 20 d → Measured (attributesText e) 108 (13 + a + b + c + d)
+  unfolding attributesText hopText
+  attributes-length a b c d w h i v x =
+      record { is = simp length-append (omega (arith, w .is, v .is, x .is)); small = omega (arith, w .small, v .small, x .small) }
+
+  pub psv-tail-length : (psv : Bool) (a n : ℕ) → psv ≡ true → Measured (asnText (e .«origin_asn»)) 20 a → Measured (attributesText e) 108 n → Measured (tailText psv e) 130 (2 + a + n)
+  unfolding tailText
+  psv-tail-length psv a n t v w =
+      rw t (record { is = simp length-append (omega (arith, v .is, w .is)); small = omega (arith, v .small, w .small) })
+
+  pub display-tail-length : (psv : Bool) (n : ℕ) → psv ≡ false → Measured (attributesText e) 108 n → Measured (tailText psv e) 130 n
+  unfolding tailText
+  display-tail-length psv n t w = rw t (record { is = w .is; small = omega (arith, w .small) })
+
+-- written
+module _ (e : Element) (out : List ℕ) (at : ℕ) where
+  pub start-written : (o₁ o₂ o₃ o : List ℕ) (a b c r : ℕ) → Written (typeText (e .announce)) out at o₁ a → Written bar o₁ a o₂ b
+      → Written (timeText (secondOf (e .timestamp))) o₂ b o₃ c → Written bar o₃ c o r → Written (startText e) out at o r
+  unfolding startText
+  start-written o₁ o₂ o₃ o a b c r w₁ w₂ w₃ w₄ = then (then (then w₁ w₂) w₃) w₄
+
+  pub peer-written : (o₁ o₂ o₃ o : List ℕ) (a b c r : ℕ) → Written (startText e) out at o₁ a → Written (addressText (e .«peer_ip»)) o₁ a o₂ b → Written bar o₂ b o₃ c
+      → Written (decimal (e .«peer_asn» .0)) o₃ c o r → Written (peerText e) out at o r
+  unfolding peerText
+  peer-written o₁ o₂ o₃ o a b c r w₁ w₂ w₃ w₄ = then (then (then w₁ w₂) w₃) w₄
+
+  pub head-written : (o₁ o₂ o₃ o : List ℕ) (a b c r : ℕ) → Written (peerText e) out at o₁ a → Written bar o₁ a o₂ b → Written (prefixText (e .prefix)) o₂ b o₃ c
+      → Written bar o₃ c o r → Written (headText e) out at o r
+  unfolding headText
+  head-written o₁ o₂ o₃ o a b c r w₁ w₂ w₃ w₄ = then (then (then w₁ w₂) w₃) w₄
+
+  pub hop-written : (o₁ o₂ o₃ o : List ℕ) (a b c r : ℕ) → Written bar out at o₁ a → Written (originText (e .origin)) o₁ a o₂ b → Written bar o₂ b o₃ c
+      → Written (addressText (e .«next_hop»)) o₃ c o r → Written (hopText e) out at o r
+  unfolding hopText
+  hop-written o₁ o₂ o₃ o a b c r w₁ w₂ w₃ w₄ = then (then (then w₁ w₂) w₃) w₄
+
+  pub attributes-written : (o₁ o₂ o₃ o₄ o₅ o : List ℕ) (a b c d f r : ℕ) → Written (hopText e) out at o₁ a → Written bar o₁ a o₂ b
+      → Written (numberText (e .«local_pref»)) o₂ b o₃ c → Written bar o₃ c o₄ d → Written (numberText (e .metric)) o₄ d o₅ f
+      → Written (ascii "||false||") o₅ f o r → Written (attributesText e) out at o r
+  unfolding attributesText
+  attributes-written o₁ o₂ o₃ o₄ o₅ o a b c d f r w₁ w₂ w₃ w₄ w₅ w₆ = then (then (then (then (then w₁ w₂) w₃) w₄) w₅) w₆
+
+  pub psv-tail-written : (psv : Bool) (o₁ o₂ o₃ o : List ℕ) (a b c r : ℕ) → psv ≡ true → Written bar out at o₁ a → Written (asnText (e .«origin_asn»)) o₁ a o₂ b
+      → Written (attributesText e) o₂ b o₃ c → Written bar o₃ c o r → Written (tailText psv e) out at o r
+  unfolding tailText
+  psv-tail-written psv o₁ o₂ o₃ o a b c r t w₁ w₂ w₃ w₄ = rw t (then (then (then w₁ w₂) w₃) w₄)
+
+  pub display-tail-written : (psv : Bool) (o : List ℕ) (r : ℕ) → psv ≡ false → Written (attributesText e) out at o r → Written (tailText psv e) out at o r
+  unfolding tailText
+  display-tail-written psv o r t w = rw t w
+
+-- a text compared with the room that is left, without its first n bytes
+leb-shift : (a b n room : ℕ) → a ≡ n + b → n ≤ room → leb a room ≡ leb b (room - n)
+leb-shift a b n room e h = go (leb b (room - n)) refl
+  where
+    go : (t : Bool) → leb b (room - n) ≡ t → leb a room ≡ t
+    go true k = le-leb a room (omega (arith, leb-true b (room - n) k))
+    go false k = lt-leb a room (omega (arith, leb-false b (room - n) k))
+
+module _ (x : Bool) (first : Bool) (s : List ℕ) (i left : ℕ) (known : x ≡ leb (length (separated 32 decimal first (drop i s))) left) where
+  pub room-more : i < length s → (n : ℕ) → n ≡ length (lead first 32 ++ decimal (getD s i 0)) → n ≤ left
+      → x ≡ leb (length (separated 32 decimal false (drop (i + 1) s))) (left - n)
+  room-more h n e l =
+      known
+      ∙ leb-shift (length (separated 32 decimal first (drop i s))) (length (separated 32 decimal false (drop (i + 1) s))) n left (omega (arith, len-more decimal 32 first s i (separated 32 decimal first (drop i s)) 0 (omega arith) 0 h n e)) l
+
+  pub room-none : i < length s → (n : ℕ) → n ≡ length (lead first 32 ++ decimal (getD s i 0)) → left < n → false ≡ x
+  room-none h n e l =
+      sym
+      (known
+      ∙ lt-leb (length (separated 32 decimal first (drop i s))) left (omega (arith, len-more decimal 32 first s i (separated 32 decimal first (drop i s)) 0 (omega arith) 0 h n e)))
+
+  pub room-end : length s ≤ i → true ≡ x
+  room-end h =
+      sym
+      (known
+      ∙ le-leb (length (separated 32 decimal first (drop i s))) left (omega (arith, len-end decimal 32 first s i (separated 32 decimal first (drop i s)) 0 (omega arith) h)))
+
+-- the header
+pub header-is : headerText ≡ ascii "type|timestamp|peer_ip|peer_asn|prefix|as_path|origin_asns|origin|next_hop|local_pref|med|communities|atomic|aggr_asn|aggr_ip|only_to_customer"
+unfolding headerText separated
+header-is = refl
+
+header-length : 142 ≡ length headerText
+unfolding headerText separated
+header-length = refl
+
+module _ (out : List ℕ) where
+  pub header-short : length out < 142 → (put.TooShort ≡ answer headerText out) × (out ≡ front headerText out)
+  header-short h = (too-short headerText out 142 header-length h, kept headerText out 142 header-length h)
+
+  pub header-written : (new : List ℕ) (a : ℕ) → 142 ≤ length out
+      → Written (ascii "type|timestamp|peer_ip|peer_asn|prefix|as_path|origin_asns|origin|next_hop|local_pref|med|communities|atomic|aggr_asn|aggr_ip|only_to_customer") out 0 new a
+      → (put.Wrote a ≡ answer headerText out) × (new ≡ front headerText out)
+  header-written new a h w =
+      let v : Written headerText out 0 new a = rw header-is w in
+      (wrote headerText out 142 header-length new a h v, whole headerText out 142 header-length new a h v)
+
+-- the call
+pub put-spoilt : (s r : Bool) (t out : List ℕ) → r ≡ s → r ≡ true → Printed s t out Spoilt out
+put-spoilt s r t out e f = let z : s ≡ true = sym e ∙ f in record { told = rw z; left = rw z }
+
+pub slice-within : (e : Element) (asns : List ℕ) (r : Bool) → r ≡ spoilt e asns → r ≡ false → e .count ≤ length asns
+slice-within e asns r h k = count-within e asns (sym h ∙ k)
+
+short : (s r : Bool) (t out : List ℕ) → r ≡ s → r ≡ false → length out < length t → Printed s t out TooShort out
+short s r t out e f h =
+    let z : s ≡ false = sym e ∙ f in
+    record { told = rw z (simp (lt-leb (length t) (length out) h)); left = rw z (kept t out (length t) refl h) }
+
+module _ (psv : Bool) (e : Element) (asns out : List ℕ) (r : Bool) (h k : ℕ) (told : r ≡ spoilt e asns) (sound : r ≡ false) (u : Measured (headText e) 158 h) (v : Measured (tailText psv e) 130 k) where
+  line-length : length (lineText psv e asns) ≡ h + k + length (sequenceText (numbers e asns))
+  unfolding lineText
+  line-length = simp length-append (omega (arith, u .is, v .is))
+
+  pub put-short : length out < h + k → Printed (spoilt e asns) (lineText psv e asns) out TooShort out
+  put-short l = short (spoilt e asns) r (lineText psv e asns) out told sound (omega (arith, line-length))
+
+  module _ (b : Bool) (l : h + k ≤ length out) (fits : b ≡ leb (length (sequenceText (numbers e asns))) (length out - (h + k))) where
+    pub put-no-room : b ≡ false → Printed (spoilt e asns) (lineText psv e asns) out TooShort out
+    put-no-room f =
+        short (spoilt e asns) r (lineText psv e asns) out told sound (omega (arith, line-length, leb-false (length (sequenceText (numbers e asns))) (length out - (h + k)) (sym fits ∙ f)))
+
+    pub put-written : b ≡ true → (o₁ o₂ o : List ℕ) (a c d : ℕ) → Written (headText e) out 0 o₁ a → Written (sequenceText (numbers e asns)) o₁ a o₂ c
+        → Written (tailText psv e) o₂ c o d → Printed (spoilt e asns) (lineText psv e asns) out (Wrote d) o
+    unfolding lineText
+    put-written f o₁ o₂ o a c d w₁ w₂ w₃ =
+        let z : spoilt e asns ≡ false = sym told ∙ sound in
+        let n : length (lineText psv e asns) ≤ length out = omega (arith, line-length, leb-true (length (sequenceText (numbers e asns))) (length out - (h + k)) (sym fits ∙ f)) in
+        let w : Written (lineText psv e asns) out 0 o d = then (then w₁ w₂) w₃ in
+        let p : d ≡ length (lineText psv e asns) = omega (arith, w .place, room-all out 0 (lineText psv e asns) (omega arith)) in
+        record {
+          told = rw z (simp (le-leb (length (lineText psv e asns)) (length out) n) (ap Wrote p));
+          left = rw z (whole (lineText psv e asns) out (length (lineText psv e asns)) refl o d n w);
+        }
+
+-- the fields joined are the parts one after another
+to-the-right : (x a b c d f p q g h i j z : List ℕ)
+    → a ++ x ++ b ++ x ++ c ++ x ++ d ++ x ++ f ++ x ++ p ++ (x ++ q ++ (x ++ g ++ x ++ h ++ x ++ i ++ x ++ j ++ z) ++ x)
+    ≡ a ++ (x ++ (b ++ (x ++ (c ++ (x ++ (d ++ (x ++ (f ++ (x ++ (p ++ (x ++ (q ++ (x ++ (g ++ (x ++ (h ++ (x ++ (i ++ (x ++ (j ++ (z ++ x)))))))))))))))))))))
+to-the-right x a b c d f p q g h i j z = simp append-assoc
+
+join16 : (a b c d f p q g h i j : List ℕ)
+    → a ++ bar ++ b ++ bar ++ c ++ bar ++ d ++ bar ++ f ++ bar ++ p ++ (bar ++ q ++ (bar ++ g ++ bar ++ h ++ bar ++ i ++ bar ++ j ++ ascii "||false||") ++ bar)
+    ≡ separated 124 (λ (t : List ℕ). t) true (a ∷ b ∷ c ∷ d ∷ f ∷ p ∷ q ∷ g ∷ h ∷ i ∷ j ∷ [] ∷ ascii "false" ∷ [] ∷ [] ∷ [] ∷ [])
+unfolding separated
+join16 a b c d f p q g h i j = to-the-right bar a b c d f p q g h i j (ascii "||false||")
+
+join14 : (a b c d f p g h i j : List ℕ)
+    → a ++ bar ++ b ++ bar ++ c ++ bar ++ d ++ bar ++ f ++ bar ++ p ++ (bar ++ g ++ bar ++ h ++ bar ++ i ++ bar ++ j ++ ascii "||false||")
+    ≡ separated 124 (λ (t : List ℕ). t) true (a ∷ b ∷ c ∷ d ∷ f ∷ p ∷ g ∷ h ∷ i ∷ j ∷ [] ∷ ascii "false" ∷ [] ∷ [] ∷ [])
+unfolding separated
+join14 a b c d f p g h i j = simp (append-assoc, append-nil)
+
+pub psv-line : (e : Element) (asns : List ℕ) → lineText true e asns ≡ psvText e asns
+unfolding lineText headText peerText startText tailText attributesText hopText psvText
+psv-line e asns =
+    join16 (typeText (e .announce)) (timeText (secondOf (e .timestamp))) (addressText (e .«peer_ip»)) (decimal (e .«peer_asn» .0)) (prefixText (e .prefix)) (sequenceText (numbers e asns)) (asnText (e .«origin_asn»)) (originText (e .origin)) (addressText (e .«next_hop»)) (numberText (e .«local_pref»)) (numberText (e .metric))
+
+pub display-line : (e : Element) (asns : List ℕ) → lineText false e asns ≡ displayText e asns
+unfolding lineText headText peerText startText tailText attributesText hopText displayText
+display-line e asns =
+    join14 (typeText (e .announce)) (timeText (secondOf (e .timestamp))) (addressText (e .«peer_ip»)) (decimal (e .«peer_asn» .0)) (prefixText (e .prefix)) (sequenceText (numbers e asns)) (originText (e .origin)) (addressText (e .«next_hop»)) (numberText (e .«local_pref»)) (numberText (e .metric))
+
+module _ (e : Element) (asns out new : List ℕ) (s : Bool) where
+  pub psv-printed : {r : _} → Printed s (lineText true e asns) out r new → Printed s (psvText e asns) out r new
+  psv-printed w = rw (← psv-line e asns) w
+
+  pub display-printed : {r : _} → Printed s (lineText false e asns) out r new → Printed s (displayText e asns) out r new
+  display-printed w = rw (← display-line e asns) w

@@ -1,0 +1,53 @@
+use Rattle.psv.proofs.Printing.{attributes-written}
+use borrow.Author.Needs.{needs}
+use Rattle.psv.proofs.write_attributes.Statement.{statement}
+use Rattle.psv.proofs.write_attributes.Tie as tie
+use Rattle.psv.proofs.write_attributes.Reads as reads
+use Rattle.psv.proofs.write_attributes.Lts as lts
+use Rattle.decimal.proofs.write_byte.Reads as write-byte-reads
+use Rattle.decimal.proofs.write_bytes.Reads as write-bytes-reads
+use Rattle.psv.proofs.write_hop.Reads as write-hop-reads
+use Rattle.psv.proofs.write_u32.Reads as write-u32-reads
+
+ruleset laws = (attributes-written)
+
+write-hop-requires : tie.Need-write-hop-requires
+write-hop-requires c κs = search needs
+
+write-byte-requires : tie.Need-write-byte-requires
+write-byte-requires c κs = search needs
+
+write-u32-requires : tie.Need-write-u32-requires
+write-u32-requires c κs = search needs
+
+write-byte-requires-2 : tie.Need-write-byte-requires-2
+write-byte-requires-2 c κs = search needs
+
+write-u32-requires-2 : tie.Need-write-u32-requires-2
+write-u32-requires-2 c κs = search needs
+
+slice-aggregate-write-bytes : tie.Need-slice-aggregate-write-bytes
+slice-aggregate-write-bytes c = search needs
+
+write-bytes-requires : tie.Need-write-bytes-requires
+write-bytes-requires c κs = search needs
+
+same-length : tie.Need-same-length
+same-length c = search needs
+
+returns : tie.Need-returns
+returns c = search (laws, needs)
+
+pub write-attributes-spec : {M : Type 1} → statement M
+write-attributes-spec =
+    tie.close
+    (tie.spec
+    write-hop-requires
+    write-byte-requires
+    write-u32-requires
+    write-byte-requires-2
+    write-u32-requires-2
+    slice-aggregate-write-bytes
+    write-bytes-requires
+    same-length
+    returns)

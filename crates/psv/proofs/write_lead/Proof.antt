@@ -1,0 +1,24 @@
+use Rattle.aspath_display.proofs.Text.{first-lead, other-lead}
+use borrow.Author.Needs.{needs}
+use Rattle.psv.proofs.write_lead.Statement.{statement}
+use Rattle.psv.proofs.write_lead.Tie as tie
+use Rattle.psv.proofs.write_lead.Reads as reads
+use Rattle.psv.proofs.write_lead.Lts as lts
+use Rattle.decimal.proofs.write_byte.Reads as write-byte-reads
+
+ruleset laws = (first-lead, other-lead)
+
+write-byte-requires : tie.Need-write-byte-requires
+write-byte-requires c κs = search needs
+
+returns : tie.Need-returns
+returns c = search (laws, needs)
+
+same-length : tie.Need-same-length
+same-length c = search needs
+
+returns-2 : tie.Need-returns-2
+returns-2 c = search (laws, needs)
+
+pub write-lead-spec : {M : Type 1} → statement M
+write-lead-spec = tie.close (tie.spec write-byte-requires returns same-length returns-2)

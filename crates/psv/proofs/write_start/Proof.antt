@@ -1,0 +1,40 @@
+use Rattle.psv.proofs.Printing.{start-written}
+use borrow.Author.Needs.{needs}
+use Rattle.psv.proofs.write_start.Statement.{statement}
+use Rattle.psv.proofs.write_start.Tie as tie
+use Rattle.psv.proofs.write_start.Reads as reads
+use Rattle.psv.proofs.write_start.Lts as lts
+use Rattle.decimal.proofs.write_byte.Reads as write-byte-reads
+use Rattle.psv.proofs.write_time.Reads as write-time-reads
+use Rattle.psv.proofs.write_type.Reads as write-type-reads
+
+ruleset laws = (start-written)
+
+write-type-requires : tie.Need-write-type-requires
+write-type-requires c κs = search needs
+
+write-byte-requires : tie.Need-write-byte-requires
+write-byte-requires c κs = search needs
+
+write-time-requires : tie.Need-write-time-requires
+write-time-requires c κs = search needs
+
+write-byte-requires-2 : tie.Need-write-byte-requires-2
+write-byte-requires-2 c κs = search needs
+
+same-length : tie.Need-same-length
+same-length c = search needs
+
+returns : tie.Need-returns
+returns c = search (laws, needs)
+
+pub write-start-spec : {M : Type 1} → statement M
+write-start-spec =
+    tie.close
+    (tie.spec
+    write-type-requires
+    write-byte-requires
+    write-time-requires
+    write-byte-requires-2
+    same-length
+    returns)

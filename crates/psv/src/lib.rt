@@ -1,0 +1,329 @@
+// An element printed as the Rust prints it: the PSV line, its header, and Display.
+ghost use mathlib.Core.Path.{_≡_};
+ghost use mathlib.Core.Bool.{true, false};
+ghost use mathlib.Core.List.{[], _∷_, _++_};
+ghost use Prim.Native.Nat.{_≤_};
+ghost use lib.ListN.{length};
+ghost use lib.Dec.{leb};
+ghost use Rattle.decimal.specs.Printed.{decimal};
+ghost use Rattle.decimal.specs.Output.{Written, front, answer};
+ghost use Rattle.seconds.specs.Seconds.{secondOf};
+ghost use Rattle.aspath_display.specs.Display.{lead, Measured};
+ghost use Rattle.elem.specs.Element.{spoilt};
+ghost use Rattle.psv.specs.Line.{headerText, typeText, timeText, sequenceText, asnText, originText, numberText, psvText, displayText, startText, peerText, headText, hopText, attributesText, tailText, lineText, Printed};
+use decimal::Put;
+use decimal::U32Read;
+use elem::Element;
+use elem::OptAsn;
+use elem::OptOrigin;
+use elem::Origin;
+use network::Asn;
+use seconds::SecondRead;
+
+pub enum ElementPut {
+    Wrote(usize),
+    Spoilt,
+    TooShort,
+}
+
+// The fields before the path.
+
+fn write_type(announce: bool, out: &mut [u8], at: usize) -> usize
+    ensures { λ r. ⌜ Written (typeText announce) (now (out .entry)) at (now (out .exit)) r ⌝ }
+{
+    if announce {
+        decimal::write_byte(b'A', out, at)
+    } else {
+        decimal::write_byte(b'W', out, at)
+    }
+}
+
+fn time_len(t: f64) -> usize
+    ensures { λ r. ⌜ Measured (timeText (secondOf t)) 21 r ⌝ }
+{
+    match seconds::second_of(t) {
+        SecondRead::Second(second) => seconds::timestamp_len(second),
+        SecondRead::Nothing => 0,
+    }
+}
+
+fn write_time(t: f64, out: &mut [u8], at: usize) -> usize
+    ensures { λ r. ⌜ Written (timeText (secondOf t)) (now (out .entry)) at (now (out .exit)) r ⌝ }
+{
+    match seconds::second_of(t) {
+        SecondRead::Second(second) => seconds::write_timestamp(second, out, at),
+        SecondRead::Nothing => at,
+    }
+}
+
+fn head_len(e: Element) -> usize
+    ensures { λ r. ⌜ Measured (headText e) 158 r ⌝ }
+{
+    let timestamp = e.timestamp;
+    let peer_ip = e.peer_ip;
+    let peer_asn = e.peer_asn;
+    let prefix = e.prefix;
+    let time = time_len(timestamp);
+    let peer = network_display::address_len(peer_ip);
+    let asn = decimal::decimal_len(peer_asn.0 as u64);
+    6 + time + peer + asn + network_display::prefix_text_len(prefix)
+}
+
+fn write_start(e: Element, out: &mut [u8], at: usize) -> usize
+    ensures { λ r. ⌜ Written (startText e) (now (out .entry)) at (now (out .exit)) r ⌝ }
+{
+    let announce = e.announce;
+    let timestamp = e.timestamp;
+    let a = write_type(announce, out, at);
+    let b = decimal::write_byte(b'|', out, a);
+    let c = write_time(timestamp, out, b);
+    decimal::write_byte(b'|', out, c)
+}
+
+fn write_peer(e: Element, out: &mut [u8], at: usize) -> usize
+    ensures { λ r. ⌜ Written (peerText e) (now (out .entry)) at (now (out .exit)) r ⌝ }
+{
+    let peer_ip = e.peer_ip;
+    let peer_asn = e.peer_asn;
+    let a = write_start(e, out, at);
+    let b = network_display::write_address(peer_ip, out, a);
+    let c = decimal::write_byte(b'|', out, b);
+    decimal::write_u32(peer_asn.0, out, c)
+}
+
+fn write_head(e: Element, out: &mut [u8], at: usize) -> usize
+    ensures { λ r. ⌜ Written (headText e) (now (out .entry)) at (now (out .exit)) r ⌝ }
+{
+    let prefix = e.prefix;
+    let a = write_peer(e, out, at);
+    let b = decimal::write_byte(b'|', out, a);
+    let c = network_display::write_prefix(prefix, out, b);
+    decimal::write_byte(b'|', out, c)
+}
+
+// The path. A number stands behind a space, of which the first has none.
+
+fn number_len(first: bool, a: u32) -> usize
+    ensures { λ r. ⌜ Measured (lead first 32 ++ decimal a) 21 r ⌝ }
+{
+    let n = decimal::decimal_len(a as u64);
+    if first { n } else { 1 + n }
+}
+
+fn write_lead(first: bool, out: &mut [u8], at: usize) -> usize
+    ensures { λ r. ⌜ Written (lead first 32) (now (out .entry)) at (now (out .exit)) r ⌝ }
+{
+    if first {
+        at
+    } else {
+        decimal::write_byte(b' ', out, at)
+    }
+}
+
+fn write_number(first: bool, a: u32, out: &mut [u8], at: usize) -> usize
+    ensures { λ r. ⌜ Written (lead first 32 ++ decimal a) (now (out .entry)) at (now (out .exit)) r ⌝ }
+{
+    let behind = write_lead(first, out, at);
+    decimal::write_u32(a, out, behind)
+}
+
+// Whether the numbers have room; they may be too many to add their lengths up.
+fn has_room(numbers: &[u32], room: usize) -> bool
+    ensures { λ r. ⌜ r ≡ leb (length (sequenceText (now (numbers .entry)))) room ⌝ }
+{
+    let mut left = room;
+    let mut first = true;
+    let mut i = 0;
+    while i < numbers.len() {
+        let n = number_len(first, numbers[i]);
+        if left < n {
+            return false;
+        }
+        left -= n;
+        first = false;
+        i += 1;
+    }
+    true
+}
+
+fn write_numbers(numbers: &[u32], out: &mut [u8], at: usize) -> usize
+    ensures { λ r. ⌜ Written (sequenceText (now (numbers .entry))) (now (out .entry)) at (now (out .exit)) r ⌝ }
+{
+    let mut place = at;
+    let mut first = true;
+    let mut i = 0;
+    while i < numbers.len() {
+        place = write_number(first, numbers[i], out, place);
+        first = false;
+        i += 1;
+    }
+    place
+}
+
+// The fields behind the path.
+
+fn asn_len(a: OptAsn) -> usize
+    ensures { λ r. ⌜ Measured (asnText a) 20 r ⌝ }
+{
+    match a {
+        OptAsn::Known(asn) => decimal::decimal_len(asn.0 as u64),
+        OptAsn::Nothing => 0,
+    }
+}
+
+fn write_asn(a: OptAsn, out: &mut [u8], at: usize) -> usize
+    ensures { λ r. ⌜ Written (asnText a) (now (out .entry)) at (now (out .exit)) r ⌝ }
+{
+    match a {
+        OptAsn::Known(asn) => decimal::write_u32(asn.0, out, at),
+        OptAsn::Nothing => at,
+    }
+}
+
+fn u32_len(n: U32Read) -> usize
+    ensures { λ r. ⌜ Measured (numberText n) 20 r ⌝ }
+{
+    match n {
+        U32Read::Number(v) => decimal::decimal_len(v as u64),
+        U32Read::Nothing => 0,
+    }
+}
+
+fn write_u32(n: U32Read, out: &mut [u8], at: usize) -> usize
+    ensures { λ r. ⌜ Written (numberText n) (now (out .entry)) at (now (out .exit)) r ⌝ }
+{
+    match n {
+        U32Read::Number(v) => decimal::write_u32(v, out, at),
+        U32Read::Nothing => at,
+    }
+}
+
+fn origin_len(o: OptOrigin) -> usize
+    ensures { λ r. ⌜ Measured (originText o) 10 r ⌝ }
+{
+    let OptOrigin::Known(origin) = o else {
+        return 0;
+    };
+    match origin {
+        Origin::IGP => 3,
+        Origin::EGP => 3,
+        Origin::INCOMPLETE => 10,
+    }
+}
+
+fn write_origin(o: OptOrigin, out: &mut [u8], at: usize) -> usize
+    ensures { λ r. ⌜ Written (originText o) (now (out .entry)) at (now (out .exit)) r ⌝ }
+{
+    let OptOrigin::Known(origin) = o else {
+        return at;
+    };
+    match origin {
+        Origin::IGP => decimal::write_bytes(b"IGP", out, at),
+        Origin::EGP => decimal::write_bytes(b"EGP", out, at),
+        Origin::INCOMPLETE => decimal::write_bytes(b"INCOMPLETE", out, at),
+    }
+}
+
+fn attributes_len(e: Element) -> usize
+    ensures { λ r. ⌜ Measured (attributesText e) 108 r ⌝ }
+{
+    let origin = e.origin;
+    let next_hop = e.next_hop;
+    let local_pref = e.local_pref;
+    let metric = e.metric;
+    let a = origin_len(origin);
+    let b = network_display::address_len(next_hop);
+    let c = u32_len(local_pref);
+    13 + a + b + c + u32_len(metric)
+}
+
+fn write_hop(e: Element, out: &mut [u8], at: usize) -> usize
+    ensures { λ r. ⌜ Written (hopText e) (now (out .entry)) at (now (out .exit)) r ⌝ }
+{
+    let origin = e.origin;
+    let next_hop = e.next_hop;
+    let a = decimal::write_byte(b'|', out, at);
+    let b = write_origin(origin, out, a);
+    let c = decimal::write_byte(b'|', out, b);
+    network_display::write_address(next_hop, out, c)
+}
+
+fn write_attributes(e: Element, out: &mut [u8], at: usize) -> usize
+    ensures { λ r. ⌜ Written (attributesText e) (now (out .entry)) at (now (out .exit)) r ⌝ }
+{
+    let local_pref = e.local_pref;
+    let metric = e.metric;
+    let a = write_hop(e, out, at);
+    let b = decimal::write_byte(b'|', out, a);
+    let c = write_u32(local_pref, out, b);
+    let d = decimal::write_byte(b'|', out, c);
+    let f = write_u32(metric, out, d);
+    decimal::write_bytes(b"||false||", out, f)
+}
+
+fn tail_len(psv: bool, e: Element) -> usize
+    ensures { λ r. ⌜ Measured (tailText psv e) 130 r ⌝ }
+{
+    let origin_asn = e.origin_asn;
+    let n = attributes_len(e);
+    if psv { 2 + asn_len(origin_asn) + n } else { n }
+}
+
+fn write_tail(psv: bool, e: Element, out: &mut [u8], at: usize) -> usize
+    ensures { λ r. ⌜ Written (tailText psv e) (now (out .entry)) at (now (out .exit)) r ⌝ }
+{
+    let origin_asn = e.origin_asn;
+    if psv {
+        let a = decimal::write_byte(b'|', out, at);
+        let b = write_asn(origin_asn, out, a);
+        let c = write_attributes(e, out, b);
+        return decimal::write_byte(b'|', out, c);
+    }
+    write_attributes(e, out, at)
+}
+
+fn put_line(psv: bool, e: Element, asns: &[u32], out: &mut [u8]) -> ElementPut
+    ensures { λ r. ⌜ Printed (spoilt e (now (asns .entry))) (lineText psv e (now (asns .entry))) (now (out .entry)) r (now (out .exit)) ⌝ }
+{
+    if elem::is_spoilt_element(e, asns) {
+        return ElementPut::Spoilt;
+    }
+    let count = e.count;
+    let numbers = &asns[..count];
+    let around = head_len(e) + tail_len(psv, e);
+    if out.len() < around {
+        return ElementPut::TooShort;
+    }
+    if has_room(numbers, out.len() - around) {
+        let a = write_head(e, out, 0);
+        let b = write_numbers(numbers, out, a);
+        return ElementPut::Wrote(write_tail(psv, e, out, b));
+    }
+    ElementPut::TooShort
+}
+
+pub fn to_psv(e: Element, asns: &[u32], out: &mut [u8]) -> ElementPut
+    ensures { λ r. ⌜ Printed (spoilt e (now (asns .entry))) (psvText e (now (asns .entry))) (now (out .entry)) r (now (out .exit)) ⌝ }
+{
+    put_line(true, e, asns, out)
+}
+
+// Display of the element.
+pub fn display_element(e: Element, asns: &[u32], out: &mut [u8]) -> ElementPut
+    ensures { λ r. ⌜ Printed (spoilt e (now (asns .entry))) (displayText e (now (asns .entry))) (now (out .entry)) r (now (out .exit)) ⌝ }
+{
+    put_line(false, e, asns, out)
+}
+
+pub fn get_psv_header(out: &mut [u8]) -> Put
+    ensures { λ r. ⌜ (r ≡ answer headerText (now (out .entry))) × (now (out .exit) ≡ front headerText (now (out .entry))) ⌝ }
+{
+    if out.len() < 142 {
+        return Put::TooShort;
+    }
+    Put::Wrote(decimal::write_bytes(
+        b"type|timestamp|peer_ip|peer_asn|prefix|as_path|origin_asns|origin|next_hop|local_pref|med|communities|atomic|aggr_asn|aggr_ip|only_to_customer",
+        out,
+        0,
+    ))
+}
