@@ -1,0 +1,49 @@
+-- What follows a header that ends with its column line changes nothing: for whoever opens a table in parts.
+use Prim.Native.Nat.{ℕ, zero, suc, _+_}
+use mathlib.Core.Path.{_≡_, refl, sym, ap, _∙_}
+use mathlib.Core.Bool.{Bool, true, false, cond}
+use mathlib.Core.List.{List, [], _∷_, _++_}
+use mathlib.Core.Option.{Option, some, none}
+use native.Mathlib.Omega.{arith}
+use lib.ListN.{take}
+use Rattle.scan.specs.Lines.{lines, Cut}
+use Rattle.scan.proofs.LineLaws.{lines-append}
+use Rattle.columns.specs.declared.Columns.{Columns}
+use Rattle.columns.specs.declared.ColumnsRead.{ColumnsRead}
+use Rattle.columns.specs.declared.ColumnsRead.the-variants.{Found, Nothing as NoColumns}
+use Rattle.text_dump_header.specs.Header.{columnsOf, isFound, through, unreadableLine, preambleOf, lastColumns, total, headerOf, answer, headerFrom, missing, header}
+use Rattle.text_dump_header.specs.declared.Preamble.{Preamble}
+use Rattle.text_dump_header.specs.declared.TextDumpHeader.{TextDumpHeader}
+use Rattle.text_dump_header.specs.declared.HeaderRead.the-variants.{Header, Unreadable}
+use Rattle.text_dump_header.proofs.HeaderLaws.{last-passed}
+
+-- the lines that the scan meets, where a column header is among the first n, with lines behind them
+none-found : (A : Type 0) (c : Columns) → NoColumns ≡ Found c → A
+none-found A c e = let z : _≡_ {A = ℕ} 0 1 = cc in absurd (omega arith)
+
+met-already : (n : ℕ) (ls ms : List (List ℕ)) (c : Columns) → lastColumns (through (take n ls)) ≡ Found c → through (take n (ls ++ ms)) ≡ through (take n ls)
+unfolding through lastColumns
+met-already zero ls ms c e = refl
+met-already (suc n) [] ms c e = none-found (through (take (suc n) ms) ≡ []) c e
+met-already (suc n) (l ∷ ls) ms c e = go (columnsOf l) refl e (λ f. met-already n ls ms c f)
+  where
+    go : (k : ColumnsRead) → columnsOf l ≡ k → lastColumns (cond (isFound k) (l ∷ []) (l ∷ through (take n ls))) ≡ Found c
+        → (lastColumns (through (take n ls)) ≡ Found c → through (take n (ls ++ ms)) ≡ through (take n ls))
+        → cond (isFound k) (l ∷ []) (l ∷ through (take n (ls ++ ms))) ≡ cond (isFound k) (l ∷ []) (l ∷ through (take n ls))
+    go (Found x) f e ih = refl
+    go NoColumns f e ih = ap (λ r. l ∷ r) (ih (sym (last-passed l (through (take n ls)) f) ∙ e))
+
+-- columns that were found are those of the last line met
+columns-of : (u : Option ℕ) (p : Preamble) (k : ColumnsRead) (i : ℕ) (h : TextDumpHeader) (at : ℕ) → answer u p k i ≡ Header h at → h .columns ≡ k
+columns-of none p k i h at e =
+    let d : headerOf p k ≡ h = cc in
+    sym (ap (λ (x : TextDumpHeader). x .columns) d)
+columns-of (some n) p k i h at e = let z : _≡_ {A = ℕ} 0 1 = cc in absurd (omega arith)
+
+pub header-append : (s t : List ℕ) → Cut s → (h : TextDumpHeader) (at : ℕ) (c : Columns) → header s ≡ Header h at → h .columns ≡ Found c → header (s ++ t) ≡ header s
+unfolding header headerFrom
+header-append s t cut h at c e f =
+    let met : List (List ℕ) = through (take 64 (lines s)) in
+    let k : lastColumns (through (take 64 (lines s))) ≡ Found c =
+    sym (columns-of (unreadableLine 0 met) (preambleOf missing met) (lastColumns met) (0 + total met) h at e) ∙ f in
+    ap (λ l. headerFrom 0 missing 0 l) (ap (λ l. through (take 64 l)) (lines-append s t cut) ∙ met-already 64 (lines s) (lines t) c k)

@@ -1,0 +1,4 @@
+pub mod DetectLaws
+pub mod PreambleLaws
+pub mod HeaderLaws
+pub mod AppendLaws

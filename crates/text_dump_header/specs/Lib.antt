@@ -1,0 +1,3 @@
+pub mod Detect
+pub mod Preamble
+pub mod Header

@@ -1,0 +1,201 @@
+-- Laws of the columns of a line, and of what it says by them.
+use Prim.Native.Nat.{ℕ, _-_, _≤_, _<_}
+use mathlib.Core.Path.{_≡_, refl, sym, ap, _∙_}
+use mathlib.Core.Bool.{Bool, true, false, cond, not, _&&_}
+use mathlib.Core.List.{List, [], _∷_, _++_, flatten}
+use native.Mathlib.Omega.{arith}
+use lib.ListN.{length, take, drop, length-drop}
+use lib.Seq.{take-all, take-at, drop-append-le}
+use lib.Dec.{leb}
+use borrow.Author.Tests.{le-leb, lt-leb, leb-true, not-true, not-false}
+use Rattle.text.specs.Utf8.{chars, readable}
+use Rattle.text.specs.Edge.{isEdge, hasSlice}
+use Rattle.scan.specs.Ascii.{ascii}
+use Rattle.scan.specs.Search.{startsWith}
+use Rattle.text.specs.White.{isSpace, trim, trimStart, trimEnd}
+use Rattle.text.proofs.TestLaws.{both}
+use Rattle.text.proofs.TrimLaws.{dropped, trim-end-part}
+use Rattle.decimal.specs.Decimal.{readU32}
+use Rattle.decimal.specs.declared.U32Read.{U32Read}
+use Rattle.network.specs.Address.{readAddress}
+use Rattle.network.specs.Prefix.{readPrefix}
+use Rattle.network.specs.declared.IpAddr.{IpAddr}
+use Rattle.network.specs.declared.NetworkPrefix.{NetworkPrefix}
+use Rattle.network.specs.declared.AddressRead.{AddressRead}
+use Rattle.network.specs.declared.AddressRead.the-variants.{Address, Nothing as NoAddress}
+use Rattle.network.specs.declared.PrefixRead.{PrefixRead}
+use Rattle.network.specs.declared.PrefixRead.the-variants.{Prefix, Nothing as NoPrefix}
+use Rattle.columns.specs.Columns.{shiftLeft}
+use Rattle.columns.specs.declared.Columns.{Columns}
+use Rattle.columns.specs.declared.ColumnsRead.{ColumnsRead}
+use Rattle.columns.specs.declared.ColumnsRead.the-variants.{Found, Nothing as NoColumns}
+use Rattle.text_dump_line.specs.Path.{originOf}
+use Rattle.text_dump_line.specs.Line.{slice, column, displayed, prefixAs, prefixText, pathStart, entryOf, pathOf, routeTo, routeOf, routeIf, anyRoute, wrappedOf, lineFrom, lineOf}
+use Rattle.elem.specs.declared.OptOrigin.{OptOrigin}
+use Rattle.text_dump_line.specs.declared.PrefixText.{PrefixText}
+use Rattle.text_dump_line.specs.declared.PrefixText.the-variants.{Blank, Invalid, Valid}
+use Rattle.text_dump_line.specs.declared.RouteEntry.{RouteEntry}
+use Rattle.text_dump_line.specs.declared.RouteRead.{RouteRead}
+use Rattle.text_dump_line.specs.declared.RouteRead.the-variants.{Route, Nothing as NoRoute}
+use Rattle.text_dump_line.specs.declared.Line.{Line}
+use Rattle.text_dump_line.specs.declared.Line.the-variants.{Unreadable, Passed, Wrapped, Route as RouteLine}
+
+-- slices
+module _ (t : List ℕ) (a b : ℕ) (r : Bool) (q : r ≡ hasSlice t a b) where
+  pub slice-order : r ≡ true → a ≤ b
+  slice-order f =
+      leb-true a b
+      (both (leb a b) (leb b (length t)) (both (leb a b && leb b (length t)) (isEdge t a) (both (leb a b && leb b (length t) && isEdge t a) (isEdge t b) (sym q ∙ f) .0) .0) .0)
+
+  pub slice-inside : r ≡ true → b ≤ length t
+  slice-inside f =
+      leb-true b (length t)
+      (both (leb a b) (leb b (length t)) (both (leb a b && leb b (length t)) (isEdge t a) (both (leb a b && leb b (length t) && isEdge t a) (isEdge t b) (sym q ∙ f) .0) .0) .1)
+
+  pub slice-start : r ≡ true → a ≤ length t
+  slice-start f = omega (arith, slice-order f, slice-inside f)
+
+  pub slice-there : r ≡ true → take (b - a) (drop a t) ≡ slice a b t
+  unfolding slice
+  slice-there f = rw (← q, f)
+
+  pub slice-missing : r ≡ false → [] ≡ slice a b t
+  unfolding slice
+  slice-missing f = rw (← q, f)
+
+pub trimmed : (t : List ℕ) (a b : ℕ) (x y : List ℕ) → x ≡ slice a b t → y ≡ trim x → y ≡ column a b t
+unfolding column
+trimmed t a b x y e f = rw (f, e)
+
+-- what is read of a column
+pub address-read : (t : List ℕ) (a b : ℕ) (x : List ℕ) (r : AddressRead) → x ≡ column a b t → r ≡ readAddress x → r ≡ readAddress (column a b t)
+address-read t a b x r e f = f ∙ ap readAddress e
+
+pub number-read : (t : List ℕ) (a b : ℕ) (x : List ℕ) (r : U32Read) → x ≡ column a b t → r ≡ readU32 x → r ≡ readU32 (column a b t)
+number-read t a b x r e f = f ∙ ap readU32 e
+
+pub starts-displayed : (t x : List ℕ) (r : Bool) → x ≡ trimStart t → r ≡ startsWith x (ascii "Displayed") → r ≡ displayed t
+unfolding displayed
+starts-displayed t x r e f = rw (f, e)
+
+-- the prefix text
+pub blank : (s : List ℕ) → length s ≡ 0 → Blank ≡ prefixText s
+unfolding prefixText
+blank [] h = refl
+blank (b ∷ s) h = absurd (omega arith)
+
+some-text : (s : List ℕ) → (length s ≡ 0 → ⊥) → prefixText s ≡ prefixAs (readPrefix s)
+unfolding prefixText
+some-text [] h = absurd (h refl)
+some-text (b ∷ s) h = refl
+
+module _ (s : List ℕ) (h : length s ≡ 0 → ⊥) (r : PrefixRead) (q : r ≡ readPrefix s) where
+  pub valid : (p : NetworkPrefix) → r ≡ Prefix p → Valid p ≡ prefixText s
+  valid p f = sym (some-text s h ∙ ap prefixAs (sym q ∙ f))
+
+  pub invalid : r ≡ NoPrefix → Invalid ≡ prefixText s
+  invalid f = sym (some-text s h ∙ ap prefixAs (sym q ∙ f))
+
+-- the path's part
+module _ (t : List ℕ) (path : ℕ) (r : Bool) (q : r ≡ hasSlice t path (length t)) where
+  pub path-there : r ≡ true → path ≡ pathStart path t
+  unfolding pathStart
+  path-there f = rw (← q, f)
+
+  pub path-missing : r ≡ false → length t ≡ pathStart path t
+  unfolding pathStart
+  path-missing f = rw (← q, f)
+
+start-inside : (t : List ℕ) (path : ℕ) → pathStart path t ≤ length t
+unfolding pathStart
+start-inside t path = go (hasSlice t path (length t)) refl
+  where
+    go : (z : Bool) → hasSlice t path (length t) ≡ z → cond z path (length t) ≤ length t
+    go true e = slice-order t path (length t) true (sym e) refl
+    go false e = omega arith
+
+pub part-inside : (t : List ℕ) (path k : ℕ) → k ≡ pathStart path t → k ≤ length t
+part-inside t path k e = omega (arith, start-inside t path)
+
+-- what a route carries
+pub entry : (t : List ℕ) (c : Columns) (hop : IpAddr) (m l : U32Read) (k : ℕ) (o : OptOrigin) → m ≡ readU32 (column (c .metric) (c .«local_pref») t)
+    → l ≡ readU32 (column (c .«local_pref») (c .weight) t) → k ≡ pathStart (c .path) t → o ≡ originOf (take (length t - k) (drop k t))
+    → record { «next_hop» = hop; metric = m; «local_pref» = l; origin = o; «path_start» = k; «path_end» = length t } ≡ entryOf c hop t
+entry t c hop m l k o em el ek eo =
+    let p : o ≡ originOf (drop k t) = eo ∙ ap originOf (take-all (length t - k) (drop k t) (simp length-drop (omega arith))) in
+    rw (em, el, p, ek)
+
+-- the path's part of a line is that of the trimmed line: the slice from Path on
+pub path-part : (s : List ℕ) (c : Columns) (hop : IpAddr) → pathOf (entryOf c hop (trimEnd s)) s ≡ drop (pathStart (c .path) (trimEnd s)) (trimEnd s)
+path-part s c hop = go (trimEnd s) (pathStart (c .path) (trimEnd s)) (flatten (dropped isSpace (chars s))) (start-inside (trimEnd s) (c .path)) (sym (trim-end-part s))
+  where
+    go : (t : List ℕ) (k : ℕ) (r : List ℕ) → k ≤ length t → s ≡ t ++ r → take (length t - k) (drop k s) ≡ drop k t
+    go t k r h e = rw (e, drop-append-le) (take-at (drop k t) r (length t - k) (length-drop k t))
+
+-- a route
+module _ (t : List ℕ) (c : Columns) (d : Bool) (qd : d ≡ displayed t) where
+  pub is-displayed : d ≡ true → NoRoute ≡ routeOf c t
+  unfolding routeOf
+  is-displayed f = rw (← qd, f)
+
+  module _ (n : d ≡ false) (r : AddressRead) (q : r ≡ readAddress (column (c .«next_hop») (c .metric) t)) where
+    by-address : routeOf c t ≡ routeTo c t r
+    unfolding routeOf
+    by-address = rw (← qd, n) (ap (routeTo c t) (sym q))
+
+    pub no-address : r ≡ NoAddress → NoRoute ≡ routeOf c t
+    no-address f = sym (by-address ∙ rw f)
+
+    pub route : (hop : IpAddr) → r ≡ Address hop → (x : List ℕ) → x ≡ column 3 (c .«next_hop») t → (p : PrefixText) → p ≡ prefixText x
+        → (e : RouteEntry) → e ≡ entryOf c hop t → Route p e ≡ routeOf c t
+    route hop f x ex p ep e ee =
+        let w : Route p e ≡ routeTo c t (Address hop) = rw (ee, ep, ex) in
+        w ∙ sym (by-address ∙ ap (routeTo c t) f)
+
+-- by the columns, else by those shifted
+module _ (t : List ℕ) (c : Columns) (r : RouteRead) (q : r ≡ routeOf c t) where
+  pub first-route : (p : PrefixText) (e : RouteEntry) → r ≡ Route p e → r ≡ anyRoute c t
+  unfolding anyRoute
+  first-route p e f = rw (← q, f)
+
+  module _ (n : r ≡ NoRoute) (s : ColumnsRead) (qs : s ≡ shiftLeft c) where
+    pub unshifted : s ≡ NoColumns → NoRoute ≡ anyRoute c t
+    unfolding anyRoute
+    unshifted f = rw (← q, n, ← qs, f)
+
+    pub shifted-route : (c′ : Columns) → s ≡ Found c′ → (v : RouteRead) → v ≡ routeOf c′ t → v ≡ anyRoute c t
+    unfolding anyRoute
+    shifted-route c′ f v e = rw (← q, n, ← qs, f, e)
+
+pub trimmed-route : (s : List ℕ) (c : Columns) (t : List ℕ) (r : RouteRead) → t ≡ trimEnd s → r ≡ routeOf c t → r ≡ routeOf c (trimEnd s)
+trimmed-route s c t r e f = rw (f, e)
+
+-- a wrapped prefix
+pub too-long : (t : List ℕ) (n : ℕ) → n < length t → NoPrefix ≡ wrappedOf n t
+unfolding wrappedOf
+too-long t n h = rw (lt-leb (length t) n h)
+
+pub wrapped : (t : List ℕ) (n : ℕ) → length t ≤ n → (x : List ℕ) → x ≡ column 3 (length t) t → (r : PrefixRead) → r ≡ readPrefix x → r ≡ wrappedOf n t
+unfolding wrappedOf
+wrapped t n h x e r f = rw (le-leb (length t) n h) (f ∙ ap readPrefix e)
+
+-- the whole line
+module _ (s : List ℕ) (c : Columns) (b : Bool) (qb : b ≡ readable s) where
+  pub unreadable-line : not b ≡ true → Unreadable ≡ lineOf c s
+  unfolding lineOf
+  unreadable-line f = rw (← qb, not-true b f)
+
+  module _ (n : not b ≡ false) (t : List ℕ) (qt : t ≡ trimEnd s) (r : RouteRead) (q : r ≡ anyRoute c t) where
+    readable-line : lineOf c s ≡ lineFrom c t
+    unfolding lineOf
+    readable-line = rw (← qb, not-false b n, qt)
+
+    pub route-line : (p : PrefixText) (e : RouteEntry) → r ≡ Route p e → RouteLine p e ≡ lineOf c s
+    route-line p e f = sym (readable-line ∙ rw (← q, f))
+
+    module _ (m : r ≡ NoRoute) (w : PrefixRead) (qw : w ≡ wrappedOf (c .«next_hop») t) where
+      pub wrapped-line : (p : NetworkPrefix) → w ≡ Prefix p → Wrapped p ≡ lineOf c s
+      wrapped-line p f = sym (readable-line ∙ rw (← q, m, ← qw, f))
+
+      pub passed-line : w ≡ NoPrefix → Passed ≡ lineOf c s
+      passed-line f = sym (readable-line ∙ rw (← q, m, ← qw, f))

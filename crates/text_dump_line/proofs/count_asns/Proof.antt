@@ -1,0 +1,89 @@
+use mathlib.Core.Path.{_≡_}
+use Prim.Native.Nat.{_+_, _-_, _≤_}
+use lib.ListN.{length, drop}
+use native.Mathlib.Omega.{arith}
+use borrow.Author.Needs.{needs}
+use Rattle.text.specs.White.{tokens}
+use Rattle.text_dump_line.specs.Path.{numbers, asnsOf}
+use Rattle.text_dump_line.proofs.PathLaws.{token-order, token-start, token-end, token-less, count-starts, counted, count-inside, count-next, count-below, count-more, count-same}
+use Rattle.text_dump_line.proofs.count_asns.Statement.{statement}
+use Rattle.text_dump_line.proofs.count_asns.Tie as tie
+
+ruleset laws = (token-order, token-start, token-end, token-less, count-starts, counted, count-inside, count-next, count-below, count-more, count-same)
+
+abbrev Inv-loop : tie.InvT-loop
+Inv-loop part at₀ n₀ at n = (n ≤ at) × (at ≤ length part) × (n + length (numbers (tokens (drop at part))) ≡ length (asnsOf part))
+
+abbrev μ-loop : tie.MeasureT-loop
+μ-loop part at₀ n₀ at n = length part - at
+
+loop-holds : tie.Need-loop-holds Inv-loop μ-loop
+loop-holds c = search (laws, needs)
+
+next-token-requires : tie.Need-next-token-requires Inv-loop μ-loop
+next-token-requires c κs = search (laws, needs)
+
+enum-known-a : tie.Need-enum-known-a Inv-loop μ-loop
+enum-known-a c = search (laws, needs)
+
+enum-told : tie.Need-enum-told Inv-loop μ-loop
+enum-told c = search (laws, needs)
+
+returns : tie.Need-returns Inv-loop μ-loop
+returns c = search (laws, needs)
+
+sub-read-u32 : tie.Need-sub-read-u32 Inv-loop μ-loop
+sub-read-u32 c = search (laws, needs)
+
+part-read-u32-start : tie.Need-part-read-u32-start Inv-loop μ-loop
+part-read-u32-start c = search (laws, needs)
+
+part-read-u32-end : tie.Need-part-read-u32-end Inv-loop μ-loop
+part-read-u32-end c = search (laws, needs)
+
+read-u32-requires : tie.Need-read-u32-requires Inv-loop μ-loop
+read-u32-requires c κs = search (laws, needs)
+
+enum-told-2 : tie.Need-enum-told-2 Inv-loop μ-loop
+enum-told-2 c = search (laws, needs)
+
+add-count : tie.Need-add-count Inv-loop μ-loop
+add-count c = let h : c .before .before .before .before .before .before .before .before .loop .count + 1 ≤ length (c .before .before .before .before .before .before .before .before .before .before .args .part .now) = search (laws, needs) in omega arith
+
+loop-less : tie.Need-loop-less Inv-loop μ-loop
+loop-less c = search (laws, needs)
+
+loop-again : tie.Need-loop-again Inv-loop μ-loop
+loop-again c = search (laws, needs)
+
+enum-told-3 : tie.Need-enum-told-3 Inv-loop μ-loop
+enum-told-3 c = search (laws, needs)
+
+loop-less-2 : tie.Need-loop-less-2 Inv-loop μ-loop
+loop-less-2 c = search (laws, needs)
+
+loop-again-2 : tie.Need-loop-again-2 Inv-loop μ-loop
+loop-again-2 c = search (laws, needs)
+
+pub count-asns-spec : {M : Type 1} → statement M
+count-asns-spec =
+    tie.close
+    (tie.spec
+    Inv-loop
+    μ-loop
+    loop-holds
+    next-token-requires
+    enum-known-a
+    enum-told
+    returns
+    sub-read-u32
+    part-read-u32-start
+    part-read-u32-end
+    read-u32-requires
+    enum-told-2
+    add-count
+    loop-less
+    loop-again
+    enum-told-3
+    loop-less-2
+    loop-again-2)

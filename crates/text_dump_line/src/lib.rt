@@ -1,0 +1,284 @@
+// What one body line says.
+ghost use mathlib.Core.Path.{_≡_};
+ghost use Prim.Native.Nat.{_≤_};
+ghost use lib.ListN.{length, drop};
+ghost use mathlib.Core.List.{_++_};
+ghost use Rattle.text.specs.White.{trimEnd};
+ghost use Rattle.decimal.specs.Decimal.{readU32};
+ghost use Rattle.network.specs.Address.{readAddress};
+ghost use Rattle.text_dump_line.specs.Path.{lastToken, letter, originOf, asnsOf, putAnswer, putList};
+ghost use Rattle.text_dump_line.specs.Line.{slice as sliceOf, column as columnOf, displayed, prefixText, pathStart, entryOf, routeOf, anyRoute, wrappedOf, lineOf};
+use columns::Columns;
+use columns::ColumnsRead;
+use decimal::U32Read;
+use elem::OptOrigin;
+use elem::Origin;
+use network::AddressRead;
+use network::IpAddr;
+use network::NetworkPrefix;
+use network::PrefixRead;
+use text::Token;
+
+pub enum PrefixText {
+    Blank,
+    Invalid,
+    Valid(NetworkPrefix),
+}
+
+// What a route carries besides its prefix. The path's part of the line lies between two places.
+pub struct RouteEntry {
+    pub next_hop: IpAddr,
+    pub metric: U32Read,
+    pub local_pref: U32Read,
+    pub origin: OptOrigin,
+    pub path_start: usize,
+    pub path_end: usize,
+}
+
+pub enum RouteRead {
+    Route(PrefixText, RouteEntry),
+    Nothing,
+}
+
+pub enum Line {
+    Unreadable,
+    Passed,
+    Wrapped(NetworkPrefix),
+    Route(PrefixText, RouteEntry),
+}
+
+// The bytes from a up to b; none where there is no such slice.
+fn slice(t: &[u8], a: usize, b: usize) -> &[u8]
+    ensures { λ r. ⌜ now r ≡ sliceOf a b (now (t .entry)) ⌝ }
+{
+    if text::has_slice(t, a, b) {
+        &t[a..b]
+    } else {
+        &t[..0]
+    }
+}
+
+fn column(t: &[u8], a: usize, b: usize) -> &[u8]
+    ensures { λ r. ⌜ now r ≡ columnOf a b (now (t .entry)) ⌝ }
+{
+    text::trim(slice(t, a, b))
+}
+
+fn address_at(t: &[u8], a: usize, b: usize) -> AddressRead
+    ensures { λ r. ⌜ r ≡ readAddress (columnOf a b (now (t .entry))) ⌝ }
+{
+    network::read_address(column(t, a, b))
+}
+
+fn number_at(t: &[u8], a: usize, b: usize) -> U32Read
+    ensures { λ r. ⌜ r ≡ readU32 (columnOf a b (now (t .entry))) ⌝ }
+{
+    decimal::read_u32(column(t, a, b))
+}
+
+fn prefix_text(s: &[u8]) -> PrefixText
+    ensures { λ r. ⌜ r ≡ prefixText (now (s .entry)) ⌝ }
+{
+    if s.len() == 0 {
+        return PrefixText::Blank;
+    }
+    let PrefixRead::Prefix(p) = network::read_prefix(s) else {
+        return PrefixText::Invalid;
+    };
+    PrefixText::Valid(p)
+}
+
+fn is_displayed(t: &[u8]) -> bool
+    ensures { λ r. ⌜ r ≡ displayed (now (t .entry)) ⌝ }
+{
+    scan::starts_with(text::trim_start(t), b"Displayed")
+}
+
+fn last_token(s: &[u8]) -> &[u8]
+    ensures { λ r. ⌜ now r ≡ lastToken (now (s .entry)) ⌝ }
+{
+    let mut last = &s[..0];
+    let mut at = 0;
+    loop {
+        let Token::At(a, b) = text::next_token(s, at) else {
+            return last;
+        };
+        last = &s[a..b];
+        at = b;
+    }
+}
+
+fn letter_of(w: &[u8]) -> OptOrigin
+    ensures { λ r. ⌜ r ≡ letter (now (w .entry)) ⌝ }
+{
+    if scan::same(w, b"i") {
+        return OptOrigin::Known(Origin::IGP);
+    }
+    if scan::same(w, b"e") {
+        return OptOrigin::Known(Origin::EGP);
+    }
+    if scan::same(w, b"?") {
+        return OptOrigin::Known(Origin::INCOMPLETE);
+    }
+    OptOrigin::Nothing
+}
+
+// Most parts end in a space and a letter, which two bytes tell.
+fn origin_of(s: &[u8]) -> OptOrigin
+    ensures { λ r. ⌜ r ≡ originOf (now (s .entry)) ⌝ }
+{
+    let n = s.len();
+    if n < 2 {
+        return letter_of(last_token(s));
+    }
+    if s[n - 2] != b' ' {
+        return letter_of(last_token(s));
+    }
+    let b = s[n - 1];
+    if b == b'i' {
+        return OptOrigin::Known(Origin::IGP);
+    }
+    if b == b'e' {
+        return OptOrigin::Known(Origin::EGP);
+    }
+    if b == b'?' {
+        return OptOrigin::Known(Origin::INCOMPLETE);
+    }
+    letter_of(last_token(s))
+}
+
+// Where the path's part starts: at the column, or at the end where there is no slice.
+fn path_start(t: &[u8], path: usize) -> usize
+    ensures { λ r. ⌜ r ≡ pathStart path (now (t .entry)) ⌝ }
+{
+    if text::has_slice(t, path, t.len()) {
+        path
+    } else {
+        t.len()
+    }
+}
+
+fn entry_of(t: &[u8], c: Columns, hop: IpAddr) -> RouteEntry
+    ensures { λ r. ⌜ r ≡ entryOf c hop (now (t .entry)) ⌝ }
+{
+    let metric = number_at(t, c.metric, c.local_pref);
+    let local_pref = number_at(t, c.local_pref, c.weight);
+    let path_start = path_start(t, c.path);
+    let origin = origin_of(&t[path_start..]);
+    RouteEntry {
+        next_hop: hop,
+        metric,
+        local_pref,
+        origin,
+        path_start,
+        path_end: t.len(),
+    }
+}
+
+fn route_in(t: &[u8], c: Columns) -> RouteRead
+    ensures { λ r. ⌜ r ≡ routeOf c (now (t .entry)) ⌝ }
+{
+    if is_displayed(t) {
+        return RouteRead::Nothing;
+    }
+    let AddressRead::Address(next_hop) = address_at(t, c.next_hop, c.metric) else {
+        return RouteRead::Nothing;
+    };
+    let prefix = prefix_text(column(t, 3, c.next_hop));
+    RouteRead::Route(prefix, entry_of(t, c, next_hop))
+}
+
+// By the columns, else by those shifted.
+fn any_route(t: &[u8], c: Columns) -> RouteRead
+    ensures { λ r. ⌜ r ≡ anyRoute c (now (t .entry)) ⌝ }
+{
+    let first = route_in(t, c);
+    if let RouteRead::Route(_, _) = first {
+        return first;
+    }
+    let ColumnsRead::Found(shifted) = columns::shift_columns_left(c) else {
+        return RouteRead::Nothing;
+    };
+    route_in(t, shifted)
+}
+
+pub fn parse_route_line(line: &[u8], columns: Columns) -> RouteRead
+    ensures { λ r. ⌜ r ≡ routeOf columns (trimEnd (now (line .entry))) ⌝ }
+{
+    route_in(text::trim_end(line), columns)
+}
+
+pub fn parse_wrapped_prefix_line(line: &[u8], next_hop: usize) -> PrefixRead
+    ensures { λ r. ⌜ r ≡ wrappedOf «next_hop» (now (line .entry)) ⌝ }
+{
+    if next_hop < line.len() {
+        return PrefixRead::Nothing;
+    }
+    network::read_prefix(column(line, 3, line.len()))
+}
+
+pub fn line_of(line: &[u8], columns: Columns) -> Line
+    ensures { λ r. ⌜ r ≡ lineOf columns (now (line .entry)) ⌝ }
+{
+    if !text::is_readable(line) {
+        return Line::Unreadable;
+    }
+    let t = text::trim_end(line);
+    if let RouteRead::Route(prefix, entry) = any_route(t, columns) {
+        return Line::Route(prefix, entry);
+    }
+    let PrefixRead::Prefix(p) = parse_wrapped_prefix_line(t, columns.next_hop) else {
+        return Line::Passed;
+    };
+    Line::Wrapped(p)
+}
+
+// How many AS numbers a path's part has.
+pub fn count_asns(part: &[u8]) -> usize
+    ensures { λ r. ⌜ r ≡ length (asnsOf (now (part .entry))) ⌝ }
+{
+    let mut at = 0;
+    let mut count: usize = 0;
+    loop {
+        let Token::At(a, b) = text::next_token(part, at) else {
+            return count;
+        };
+        at = b;
+        if let U32Read::Number(_) = decimal::read_u32(&part[a..b]) {
+            count += 1;
+        }
+    }
+}
+
+fn write_asns(part: &[u8], out: &mut [u32]) -> usize
+    requires { ⌜ length (asnsOf (now part)) ≤ length (now out) ⌝ }
+    ensures { λ r. ⌜ (r ≡ length (asnsOf (now (part .entry)))) × (now (out .exit) ≡ asnsOf (now (part .entry)) ++ drop (length (asnsOf (now (part .entry)))) (now (out .entry))) ⌝ }
+{
+    let mut at = 0;
+    let mut n: usize = 0;
+    loop {
+        let Token::At(a, b) = text::next_token(part, at) else {
+            return n;
+        };
+        at = b;
+        if let U32Read::Number(x) = decimal::read_u32(&part[a..b]) {
+            out[n] = x;
+            n += 1;
+        }
+    }
+}
+
+pub enum AsnsPut {
+    Wrote(usize),
+    TooFew,
+}
+
+// The AS numbers at the front of the lent list, or a refusal.
+pub fn put_asns(part: &[u8], out: &mut [u32]) -> AsnsPut
+    ensures { λ r. ⌜ (r ≡ putAnswer (asnsOf (now (part .entry))) (now (out .entry))) × (now (out .exit) ≡ putList (asnsOf (now (part .entry))) (now (out .entry))) ⌝ }
+{
+    if out.len() < count_asns(part) {
+        return AsnsPut::TooFew;
+    }
+    AsnsPut::Wrote(write_asns(part, out))
+}
