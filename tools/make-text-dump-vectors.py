@@ -1,13 +1,16 @@
 #!/usr/bin/env python3
-"""make-text-dump-vectors.py: write crates/text_dump_vectors/data/cases.txt.
+"""make-text-dump-vectors.py: write crates/text_dump_vectors/data/cases.txt, and to crates/text_dump_vectors/stdout what the
+program prints when every answer is right.
 
 Run it at the top of the repository, with the path of a built oracle in the environment variable ORACLE. The seed is fixed: the
-same oracle gives the same list.
+same oracle gives the same list. The cases written out here (LITERAL_*) are held to the oracle too, wherever it can be asked.
 """
 import ipaddress
 import os
 import random
 import subprocess
+
+from listings import COLUMN_LINE as HEAD, LAYOUTS as COLS, PREAMBLE as PRE, column_line as head, route
 
 random.seed(20240301)
 ORACLE = os.environ["ORACLE"]
@@ -23,7 +26,7 @@ def addr(s):
 def pfx(s):
     a,l=s.rsplit('/',1); return addr(a)+'/'+l
 out=[]
-def emit(group,rows):
+def emit(rows):
     out.extend('%s\t%s'%r for r in rows)
 # ---- detection
 texts=[]
@@ -46,10 +49,8 @@ for _ in range(150):
         m=random.choice(marks); k=random.randint(0,n); b[k:k]=m
     texts.append(bytes(b))
 qs=['detect '+hx(t) for t in texts]
-emit('detect',list(zip(qs,ask(qs))))
+emit(list(zip(qs,ask(qs))))
 # ---- headers
-HEAD=b'   Network          Next Hop            Metric LocPrf Weight Path'
-PRE=b'BGP table version is 7, local router ID is 192.0.2.254, vrf id 0\nDefault local pref 100, local AS 64500\n'
 hs=[]
 for n in (0,1,5,61,62,63,64,65): # header line number n+1
     hs.append(b'x\n'*n+HEAD+b'\nbody\n'); hs.append(b'x\n'*n+HEAD)
@@ -88,25 +89,20 @@ for _ in range(200):
         else: b[i:i]=random.choice([b' ',b',',b'\n',b'\xc2\xa0',b'local AS ',b'\xff',b'Next Hop '])
     hs.append(bytes(b))
 hs=[h for h in hs if len(h)<2000]
-qs=['header '+hx(h) for h in hs]
-ans=[]
 def unreadable_line(h):
     # the line met by the scan that is not UTF-8: asked by elems
     a=ask(['elems 0 '+hx(h)])[0]; assert a.startswith('error utf8 line='),a
     return a[len('error utf8 line='):]
-for q,a,h in zip(qs,ask(qs),hs):
-    if a=='error': ans.append('unreadable '+unreadable_line(h)); continue
-    d=dict(x.split('=',1) for x in a.split(' '))
-    r=d['router']; 
-    ans.append('%s %s %s %s %s'%(d['version'],addr(r) if r!='-' else '-',d['as'],d['columns'],d['consumed']))
-emit('header',list(zip(qs,ans)))
+def header_answers(hs):
+    ans=[]
+    for a,h in zip(ask(['header '+hx(h) for h in hs]),hs):
+        if a=='error': ans.append('unreadable '+unreadable_line(h)); continue
+        d=dict(x.split('=',1) for x in a.split(' '))
+        r=d['router'];
+        ans.append('%s %s %s %s %s'%(d['version'],addr(r) if r!='-' else '-',d['as'],d['columns'],d['consumed']))
+    return ans
+emit(list(zip(['header '+hx(h) for h in hs],header_answers(hs))))
 # ---- lines
-def head(cols):
-    nh,me,lp,we,pa=cols
-    b=bytearray(b' '*(pa+4)); b[nh:nh+8]=b'Next Hop'; 
-    for k,n in ((me,b'Metric'),(lp,b'LocPrf'),(we,b'Weight'),(pa,b'Path')): b[k:k+len(n)]=n
-    return bytes(b).rstrip()+b'\n'
-COLS=[(20,40,47,54,61),(20,29,36,43,50),(19,36,44,51,60),(30,45,52,60,70)]
 P0='77.0.0.0/8'
 def listing(cols,line):
     nh,me,lp,we,pa=cols
@@ -115,11 +111,6 @@ def listing(cols,line):
         return s.encode()+b' '*(pa-len(s))+rest+b'\n'
     return head(cols)+row('*> 77.0.0.0/8','1.1.1.1',b'1 i')+line+b'\n'+row('*','2.2.2.2',b'2 i')
 cases=[]
-def route(cols,status='*>',prefix='198.51.100.0/24',hop='192.0.2.1',metric='0',lp='',weight='0',path='64501 64502 i'):
-    nh,me,lpc,we,pa=cols
-    s=(status.ljust(3)+prefix).ljust(nh)+hop
-    s=s.ljust(me)+metric.rjust(lpc-me-1); s=s.ljust(lpc)+lp.rjust(we-lpc-1); s=s.ljust(we)+weight.rjust(pa-we-1); s=s.ljust(pa)+path
-    return s.encode()
 for cols in COLS:
     base=route(cols)
     for k in range(len(base)+1): cases.append((cols,base[:k]))
@@ -159,16 +150,15 @@ for cols in COLS:
             elif i<len(b): b[i]=random.choice(b' 1.i?/:x\xc2')
         cases.append((cols,bytes(b)))
 cases=[(c,l) for c,l in dict.fromkeys(cases) if b'\n' not in l]
-qs=['elems_on 0 '+hx(listing(c,l)) for c,l in cases]
-rows=[]
 ORI={'IGP':'i','EGP':'e','INCOMPLETE':'?','':'-'}
-skipped=0
-for (c,l),a in zip(cases,ask(qs)):
-    q='line %d %d %d %d %d %s'%(c+(hx(l+b'\n'),))
+def line_question(group,c,l):
+    return '%s %d %d %d %d %d %s'%((group,)+c+(hx(l+b'\n'),))
+def line_answer(l,a):
+    # what the line says, by the elements of the listing in which it stands
     parts=a.split('\t'); first=parts[0].split(' ')
     if 'utf8=yes' not in parts[0]:
         assert 'utf8=no:3' in parts[0],a
-        rows.append((q,'unreadable')); continue
+        return 'unreadable'
     els=parts[1:]; n=int(first[0]); assert n==len(els),a
     def psv(e):
         f=e.split('#'); p=f[0].split('|'); return p,f[2]
@@ -180,15 +170,111 @@ for (c,l),a in zip(cases,ask(qs)):
     assert len(mid)<=1
     if mid:
         p,asns=psv(mid[0])
-        if p[4]==P0: rows.append((q,'blank '+entry(p,asns)))
-        else: rows.append((q,'route %s %s'%(pfx(p[4]),entry(p,asns))))
-    elif probe is None: rows.append((q,'invalid'))
-    elif probe[4]==P0: rows.append((q,'passed'))
-    else: rows.append((q,'wrapped '+pfx(probe[4])))
-emit('line',rows)
+        return 'blank '+entry(p,asns) if p[4]==P0 else 'route %s %s'%(pfx(p[4]),entry(p,asns))
+    return 'invalid' if probe is None else 'passed' if probe[4]==P0 else 'wrapped '+pfx(probe[4])
+def listings(cases):
+    return ask(['elems_on 0 '+hx(listing(c,l)) for c,l in cases])
+emit([(line_question('line',c,l),line_answer(l,a)) for (c,l),a in zip(cases,listings(cases))])
+# ---- cases written out: 01's listing, and what is easily misread in 01. A group's name begins with the call's.
+LISTING=(20,40,47,54,61) # the columns of 01's listing
+WIDE=(30,45,52,60,70)
+AT_0,AT_2,AT_6,AT_7=(0,10,17,24,31),(2,12,19,26,33),(6,16,23,30,37),(7,17,24,31,38)
+LITERAL_DETECT=[
+    # a mark ends by byte 128; what follows need not be UTF-8, and a character may not be cut there
+    ('detect_by_byte_128',b'a'*119+b'BGP table','yes'),
+    ('detect_by_byte_128',b'a'*120+b'BGP table','no'),
+    ('detect_by_byte_128',b'a'*119+b'BGP table\xff','yes'),
+    ('detect_by_byte_128',b'BGP table'+b'a'*118+'é'.encode(),'no'),
+]
+LITERAL_HEADERS=[ # the answer without the position, which is the text's length
+    ('header_listing',PRE+C,'7 192.0.2.254 64500 20,40,47,54,61'),
+    # each field is overwritten by itself, even with missing; a mark needs its last space, which trimming takes away
+    ('header_each_field',PRE+b'BGP table version is x, y\n'+C,'- 192.0.2.254 64500 20,40,47,54,61'),
+    ('header_each_field',PRE+b'Default local pref 100, local AS \n'+C,'7 192.0.2.254 64500 20,40,47,54,61'),
+    ('header_each_field',PRE+b'Default local pref 100, local AS x\n'+C,'7 192.0.2.254 - 20,40,47,54,61'),
+    ('header_each_field',PRE+b'Default local pref 100, local AS 5 local AS \n'+C,'7 192.0.2.254 - 20,40,47,54,61'),
+    # the preamble rules read the column line too
+    ('header_column_line_is_preamble',PRE+b'Default local pref 1, local AS 5 Next Hop Metric LocPrf Weight Path\n','7 192.0.2.254 - 33,42,49,56,63'),
+    # a vertical tab and a no-break space are trimmed from the end, and part no tokens
+    ('header_tokens',b'Next\x0bHop Metric LocPrf Weight Path\n','- - - -'),
+    ('header_tokens',b'Next\xc2\xa0Hop Metric LocPrf Weight Path\n','- - - -'),
+    ('header_tokens',b'Next Hop\x0bMetric LocPrf Weight Path\n','- - - -'),
+    ('header_tokens',b'Next Hop\xc2\xa0Metric LocPrf Weight Path\n','- - - -'),
+    ('header_tokens',b'Next Hop Metric LocPrf Weight Path\x0b\n','- - - 0,9,16,23,30'),
+    ('header_tokens',b'Next Hop Metric LocPrf Weight Path\xc2\xa0\n','- - - 0,9,16,23,30'),
+]
+LITERAL_LINES=[
+    ('line_listing',LISTING,'*> 198.51.100.0/24  192.0.2.1                0             0 64501 64502 i','route 198.51.100.0/24 192.0.2.1 0 - i 64501,64502'),
+    ('line_listing',LISTING,'*                   192.0.2.2                     150      0 64503 64502 i','blank 192.0.2.2 - 150 i 64503,64502'),
+    # the columns come first even where the shifted ones would look better: 92.0.2.1 is an address, .0.2.1 is none
+    ('line_columns_first',LISTING,'*> 198.51.100.0/24 192.0.2.1                0             0 64501 64502 i','invalid'),
+    ('line_columns_first',LISTING,'*> 198.51.100.0/24 9.0.2.1                  0             0 64501 64502 i','route 198.51.100.0/24 9.0.2.1 0 - i 64501,64502'),
+    # the shift rescues a line that ends at Metric minus 1, and no shorter one
+    ('line_ends_before_metric',LISTING,'*> 11.0.0.0/8       2001:db8:1111:22::1','route 11.0.0.0/8 2001:db8:1111:22::1 - - - -'),
+    ('line_ends_before_metric',LISTING,'*> 11.0.0.0/8       2001:db8:1111:2::1','passed'),
+    # a no-break space across Next Hop, at bytes 19 to 21: the shifted columns make the line a route
+    ('line_next_hop_in_character',LISTING,'*> 11.0.0.0/8      \u00a0192.0.2.1              0             0 64501 i','route 11.0.0.0/8 192.0.2.1 0 - i 64501'),
+    # byte 3 in a character: there is no prefix slice
+    ('line_byte_3_in_character',LISTING,'*>é11.0.0.0/8      192.0.2.1                0             0 64501 i','blank 192.0.2.1 0 - i 64501'),
+    # the lines at which the Rust panics are passed over
+    ('line_rust_panics',LISTING,'Displayed  5 routesé and 7 total paths','passed'),
+    ('line_rust_panics',LISTING,'Total number of preéfixes 5','passed'),
+    ('line_rust_panics',LISTING,'*> 198.51.100.0/24 😀','passed'),
+    # below 7 no prefix text fits before Next Hop, and a route is blank or invalid; at 7 the shortest prefix does
+    ('line_next_hop_below_7',AT_0,'192.0.2.1      7             0 64501 i','blank 192.0.2.1 7 - i 64501'),
+    ('line_next_hop_below_7',AT_2,'* 192.0.2.1      7             0 64501 i','blank 192.0.2.1 7 - i 64501'),
+    ('line_next_hop_below_7',AT_6,'*> ::/192.0.2.1      7             0 64501 i','invalid'),
+    ('line_next_hop_below_7',AT_7,'*> ::/0192.0.2.1      7             0 64501 i','route ::/0 192.0.2.1 7 - i 64501'),
+    # two status bytes instead of three leave 03.0.113.0/24; `::` stands for at least one group
+    ('line_no_prefix',LISTING,'* 203.0.113.0/24    192.0.2.1                0             0 64501 i','invalid'),
+    ('line_no_prefix',LISTING,'* 203.0.113.0/24','passed'),
+    ('line_no_prefix',WIDE,'*> 1:2:3:4:5:6:7::8/0         192.0.2.1            0              0  64501 i','invalid'),
+    ('line_no_prefix',WIDE,'*> 1:2:3:4:5:6:7::8/0','passed'),
+]
+LITERAL_ROUTES=[ # the first line of line_columns_first: what the route carries, though its prefix is invalid
+    ('route_columns_first',LISTING,'*> 198.51.100.0/24 192.0.2.1                0             0 64501 64502 i','92.0.2.1 0 - i 4501,64502'),
+]
+LITERAL_ASNS=[('64501 64502 i',[64501,64502]),('64501',[64501]),('1 {2} 3 x 4294967296 4 i 5 ?',[1,3,4,5]),('i',[]),('',[])]
+MARK=9 # what each AS place holds before the call
+def numbers(a):
+    # an answer with its addresses as numbers
+    w=a.split(' ')
+    if w[0] in ('route','wrapped'): w[1]=pfx(w[1])
+    if w[0] in ('route','blank'): w[-5]=addr(w[-5])
+    return ' '.join(w)
+def held(said,asked):
+    assert said==asked,(said,asked)
+rows=[('%s %s'%(g,hx(t)),a) for g,t,a in LITERAL_DETECT]
+held([a for q,a in rows],ask(['detect '+hx(t) for g,t,a in LITERAL_DETECT])); emit(rows)
+rows=[]
+for g,t,a in LITERAL_HEADERS:
+    w=a.split(' ')
+    rows.append(('%s %s'%(g,hx(t)),'%s %s %s %s %d'%(w[0],w[1] if w[1]=='-' else addr(w[1]),w[2],w[3],len(t))))
+held([a for q,a in rows],header_answers([t for g,t,a in LITERAL_HEADERS])); emit(rows)
+for g,c,l,a in LITERAL_LINES:
+    l=l.encode()
+    if g=='line_next_hop_below_7': # no element but the one at 7
+        held('0 utf8=yes' if c[0]<7 else '1 utf8=yes',ask(['elems 0 '+hx(head(c)+l+b'\n')])[0].split('\t')[0])
+    else:
+        said=listings([(c,l)])[0]
+        held(numbers(a),line_answer(l,said)); held(g=='line_rust_panics',' panics=1' in said.split('\t')[0])
+    emit([(line_question(g,c,l),numbers(a))])
+emit([(line_question(g,c,l.encode()),addr(a.split(' ')[0])+a[a.index(' '):]) for g,c,l,a in LITERAL_ROUTES])
+for t,v in LITERAL_ASNS: # too few places by all and by one, just enough, one more
+    for room in sorted({0,max(0,len(v)-1),len(v),len(v)+1}):
+        left=v+[MARK]*(room-len(v)) if len(v)<=room else [MARK]*room
+        emit([('put_asns %s %d'%(hx(t.encode()),room),('%d'%len(v) if len(v)<=room else 'refused 7')+''.join(',%d'%n for n in left))])
 h='''# Cases of text_dump_header and text_dump_line, made by tools/make-text-dump-vectors.py from the oracle's answers (seed 20240301).
 # detect: the oracle's. header: version, router ID, local AS, columns and position, addresses as numbers; an unreadable line's
 # number is that of the oracle's elems. line: under columns, what a line says, by the elements of a listing in which the line stands between
 # a route of 77.0.0.0/8 and a blank-prefix route: the line's element, and the prefix under which the second route is answered.
+# detect_*, header_*, line_*: written out by hand from 01, and the oracle's too, but for these, whose answers are 01's alone:
+# line_rust_panics, where the Rust panics; line_next_hop_below_7, where the Rust yields nothing since it remembers no prefix. In line_no_prefix
+# the packaged ipnet of 2022 would read a prefix; 01 and the oracle's stand-in read none. route_*: 01's, what a route carries by the columns alone.
+# put_asns: 01's. A path's part and a number of AS places that hold 9 each; the answer, and what all places hold then.
 '''
 open('crates/text_dump_vectors/data/cases.txt','w').write(h+'\n'.join(out)+'\n')
+groups=[row.split(' ',1)[0] for row in out]
+names=[g for g,_ in itertools.groupby(groups)]
+assert len(names)==len(set(names)),'the cases of a group do not stand together'
+open('crates/text_dump_vectors/stdout','w').write(''.join('%s: %d cases, 0 mismatches\n'%(g,groups.count(g)) for g in names))

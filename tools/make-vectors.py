@@ -13,12 +13,15 @@ the oracle is asked the same question. Where the oracle's question has another n
 another form, ask it yourself (`ask`) and give the answer. The function's docstring goes to the head
 of the list: say there what the answers rest on where it is not the oracle.
 """
+import ipaddress
 import itertools
 import os
 import random
 import struct
 import subprocess
 import sys
+
+from listings import COLUMN_LINE, LISTING, PREAMBLE, some_listing
 
 SEED = 20240301
 
@@ -600,7 +603,27 @@ COALESCE_EXAMPLE = ("0:;0:1,2;0:;0:2;1:2;1:5,3,3,2", "0:1,2,2;1:2;1:5,3,3,2")
 DEDUP_EXAMPLE = ("0:1,2;0:;0:2;1:2;1:5,3,3,2", "0:1,2;1:2,3,5")
 # the segments whose equality it documents, here as paths
 EQUALITY_EXAMPLES = [("0:1,2,3", "0:1,2,3"), ("0:1,2,3", "0:1,2,3,3"), ("1:1,2,3", "1:3,1,2"), ("1:1,2,3", "1:1,2,3,3"), ("0:1,2,3", "1:1,2,3")]
-# empty sequences (FINDINGS 15 and 16)
+
+# Cases written out, a group for each call and what it shows: a path, and the path that it becomes.
+LITERAL_NORMAL = [
+    ("coalesce", "documented", [COALESCE_EXAMPLE, ("0:", "0:"), ("1:5,3,3,2", "1:5,3,3,2"), ("0:1,1", "0:1,1")]),
+    ("dedup_coalesce", "documented", [DEDUP_EXAMPLE]),
+    # empty sequences go, then neighbours of one kind are one; where there is nothing else, the last stays
+    ("coalesce", "empty_sequences", [("0:;2:", "2:"), ("2:;0:", "0:"), ("0:;0:", "0:"), ("0:1;2:;0:2", "0:1,2"), ("0:1;2:2;0:", "0:1;2:2"), ("2:", "2:"), ("-", "-")]),
+]
+# Two paths, whether they are equivalent, and what both become: the lent paths are normalised.
+LITERAL_EQUIVALENT = [
+    ("documented", [
+        ("0:1,2,3", "0:1,2,3", "yes", "0:1,2,3", "0:1,2,3"),
+        ("0:1,2,3", "0:1,2,3,3", "yes", "0:1,2,3", "0:1,2,3"),
+        ("1:1,2,3", "1:3,1,2", "yes", "1:1,2,3", "1:1,2,3"),
+        ("1:1,2,3", "1:1,2,3,3", "yes", "1:1,2,3", "1:1,2,3"),
+        ("0:1,2,3", "1:1,2,3", "no", "0:1,2,3", "1:1,2,3"),
+    ]),
+    ("empty_sequences", [("-", "0:", "no", "-", "0:"), ("0:;2:", "2:;0:", "no", "2:", "0:"), ("0:;2:", "2:", "yes", "2:", "2:")]),
+    ("normalises", [(*DEDUP_EXAMPLE, "yes", DEDUP_EXAMPLE[1], DEDUP_EXAMPLE[1]), ("0:1,1;0:1", "1:5,5;3:9,8", "no", "0:1", "0:5;3:8,9")]),
+]
+# empty sequences, and sets of one number
 EMPTY_SEQUENCES = ["-", "0:", "2:", "0:;2:", "2:;0:", "0:;0:", "0:;2:;0:", "1:;0:", "0:;1:", "1:5,5", "3:5,5;2:5"]
 SPOILT_FORM = [(0, [1, 2]), (1, [3])]
 SPOILT = [dict(kinds=[0, 4]), dict(kinds=[0]), dict(lengths=[2]), dict(numbers=[1, 2], n=3), dict(lengths=[2, 2]), dict(lengths=[2, 0]),
@@ -621,18 +644,53 @@ def normal_pairs(rng, longer):
     return pairs
 
 
+def held(answers, questions):
+    """Answers that are written out are the oracle's too."""
+    assert answers == ask(questions), list(zip(questions, answers, ask(questions)))
+
+
+def normal_answer(r, q, numbers=True):
+    return counts(q) + left(normalised(r, q, numbers))
+
+
+def equivalence_answer(yes, r, x, t, y):
+    return f"{yes} {counts(x)} {counts(y)}" + left(normalised(r, x)) + left(normalised(t, y))
+
+
+def literal_normal():
+    """The cases written out, with two places behind each list."""
+    for call, about, pairs in LITERAL_NORMAL:
+        held([after for _, after in pairs], [f"{call} {before}" for before, _ in pairs])
+        for before, after in pairs:
+            r = record(unspelt(before))
+            yield f"{call}_{about} {said(r)}", normal_answer(r, unspelt(after), call != "coalesce")
+    for about, pairs in LITERAL_EQUIVALENT:
+        for a, b, yes, x, y in pairs:
+            held([yes, x, y], [f"equivalent {a} {b}", f"dedup_coalesce {a}", f"dedup_coalesce {b}"])
+            r, t = record(unspelt(a)), record(unspelt(b))
+            yield f"equivalent_{about} {said(r)} {said(t)}", equivalence_answer(yes, r, unspelt(x), t, unspelt(y))
+
+
+def large_sets(rng):
+    """Sets of many numbers: in rising and falling order, all equal, few different, any, at the top of u32."""
+    for n in (10, 15, 16, 17, 31, 32, 33, 64, 100, 200):
+        rising = [7 * i for i in range(n)]
+        for v in (rising, rising[::-1], [5] * n, [rng.randrange(3) for _ in range(n)], [rng.randrange(2**32) for _ in range(n)], [2**32 - 1 - i % 9 for i in range(n)]):
+            yield [(1, v)]
+
+
 def aspath_normal_cases(rng):
-    """Up to two segments, the documentation's examples, empty sequences, longer random paths, spoilt records. The answers are the
-    oracle's; refusals and the places afterwards are 01's: 7 stands in the places behind a record, freed places are 0."""
+    """Up to two segments, empty sequences, longer random paths, sets of up to 200 numbers, spoilt records. The answers are the
+    oracle's; refusals and the places afterwards are 01's: 7 stands in the places behind a record, freed places are 0. In the
+    groups with a longer name (_documented, _empty_sequences, _normalises) the paths and the answers are written out by hand, and are
+    the oracle's too; that both lent paths are normalised is 01's, the Rust works on copies."""
     longer = [longer_path(rng) for _ in range(600)]
-    for name, (before, after) in (("coalesce", COALESCE_EXAMPLE), ("dedup_coalesce", DEDUP_EXAMPLE)):
-        assert ask([f"{name} {before}"]) == [after]
     paths = without_repeats([unspelt(t) for t in [COALESCE_EXAMPLE[0], DEDUP_EXAMPLE[0]] + EMPTY_SEQUENCES] + short_paths(2) + longer)
     spoilt = [record(SPOILT_FORM, **change) for change in SPOILT]
     for name in ("coalesce", "dedup_coalesce"):
         for i, (p, a) in enumerate(zip(paths, ask([f"{name} {spelt(p)}" for p in paths]))):
             r, q = record(p, room=i % 3), unspelt(a)
-            yield f"{name} {said(r)}", counts(q) + left(normalised(r, q, name != "coalesce"))
+            yield f"{name} {said(r)}", normal_answer(r, q, name != "coalesce")
         for r in spoilt:
             yield f"{name} {said(r)}", "refused 10" + left(r)
     pairs = without_repeats(normal_pairs(rng, longer[:350]))
@@ -640,9 +698,14 @@ def aspath_normal_cases(rng):
     for i, (a, b) in enumerate(pairs):
         yes, x, y = asked[3 * i], unspelt(asked[3 * i + 1]), unspelt(asked[3 * i + 2])
         r, t = record(a, room=i % 2), record(b, room=i % 3)
-        yield f"equivalent {said(r)} {said(t)}", f"{yes} {counts(x)} {counts(y)}" + left(normalised(r, x)) + left(normalised(t, y))
+        yield f"equivalent {said(r)} {said(t)}", equivalence_answer(yes, r, x, t, y)
     for r, t in [(r, record([(0, [1, 1])])) for r in spoilt] + [(record([(0, [1, 1])]), r) for r in spoilt] + [(r, r) for r in spoilt]:
         yield f"equivalent {said(r)} {said(t)}", "refused 10" + left(r) + left(t)
+    yield from literal_normal()
+    sets = list(large_sets(rng))
+    for p, a in zip(sets, ask([f"dedup_coalesce {spelt(p)}" for p in sets])):
+        r = record(p)
+        yield f"dedup_coalesce_large_sets {said(r)}", normal_answer(r, unspelt(a))
 
 
 def joined(digits):
@@ -706,7 +769,28 @@ def path_calls(p, many):
         yield f"display {r} 0 {room}", f"display {t}", lambda a, room=room: read_text(a, room)
 
 
-# FINDINGS 15 to 19, and the paths of the documentation of aspath.rs
+SETS = ";".join(["1:" + ",".join(map(str, range(1, 17)))] * 16)  # sixteen sets of sixteen: 2^64 routes
+FEWER = SETS[: SETS.rindex(",")]  # the last of fifteen: 15 * 2^60 routes
+
+# Cases written out, a group for each call and what it shows: a path, the arguments behind it, the answer; how many places are lent.
+LITERAL_PATHS = [
+    # a sequence of five and a set of three; confederation segments add nothing
+    ("route_len", "documented", [("0:1,2,3,4,5;1:6,7,8", "", "6", 0), ("2:1,2;3:3", "", "0", 0)]),
+    # there is not exactly one origin: no segment, a set at the end
+    ("origin", "documented", [("-", "", "none", 0), ("0:1;1:2,3", "", "none", 0), ("0:1;1:2", "", "2", 0)]),
+    # the last segment is empty
+    ("origin", "misread", [("0:1;0:", "", "none", 0)]),
+    # over 2^64-1; an empty set makes it 0, whatever the others are
+    ("variations", "misread", [(SETS, "", "refused 11", 0), (FEWER, "", "17293822569102704640", 0), (SETS + ";1:", "", "0", 0), ("1:;" + SETS, "", "0", 0)]),
+    ("route", "misread", [(SETS, "0", "refused 11", 16), (FEWER, "17293822569102704639", ",".join(["16"] * 15 + ["15"]), 16), (SETS + ";1:", "0", "refused 12", 17)]),
+    # repeats go within a segment only; a set of one number counts, another and a confederation give none, as no numbers do
+    ("u32vec", "misread", [("0:1,1;0:1", "1", "1,1", 3), ("0:1,1;0:1", "0", "1,1,1", 3), ("1:5", "1", "5", 1), ("1:5,5", "1", "none", 2), ("2:", "0", "none", 2),
+                           ("-", "0", "none", 0), ("0:", "1", "none", 1), ("0:;0:", "0", "none", 1)]),
+    # a space between two segments, though both are empty
+    ("display", "misread", [("0:;0:", "", " ", 3), ("0:1;0:", "", "1 ", 3), ("1:", "", "{}", 3)]),
+]
+
+# the paths of the cases written out, and of the documentation of aspath.rs: here every call is asked of them
 KNOWN_PATHS = [
     *([(1, list(range(1, 17)))] * 16, [(1, list(range(1, 17)))] * 15 + [(1, list(range(1, 16)))], [(1, [1, 2])] * 63 + [(1, [])]),
     [(0, [1, 2, 3, 4, 5]), (1, [6, 7, 8])],
@@ -719,9 +803,26 @@ def random_path(rng):
     return [(rng.choice((0, 0, 1, 2, 3)), [rng.randrange(top) for _ in range(rng.choice((0, 1, 1, 2, 3, 5, 9)))]) for _ in range(rng.randrange(1, 7))]
 
 
+def literal_paths():
+    """The cases written out."""
+    for call, about, cases in LITERAL_PATHS:
+        for path, args, answer, room in cases:
+            if not answer.startswith("refused"):
+                held([f'"{answer}"' if call == "display" else answer], [f"{call} {path} {args}".rstrip()])
+            if call == "display":
+                read = read_text(f'"{answer}"', room)
+            elif call in ("u32vec", "route"):
+                read = answer + lent_places(room, []) if answer.startswith("refused") else read_numbers(answer, room, "none")
+            else:
+                read = answer
+            yield f"{call}_{about} {said(record(unspelt(path), room=0))} {args or 0} {room}", read
+
+
 def aspath_cases(rng):
     """Up to one segment and some of two, the documentation's paths, random paths, spoilt records. The answers are the oracle's;
-    refusals and the places afterwards are 01's: places hold 7 and bytes 0 before a call."""
+    refusals and the places afterwards are 01's: places hold 7 and bytes 0 before a call. In the groups with a longer name
+    (_documented, _misread) the paths and the answers are written out by hand; they are the oracle's too, but for 11, where the
+    Rust's product wraps."""
     calls = [c for p in short_paths(1) + rng.sample(short_paths(2), 250) for c in path_calls(p, False)]
     calls += [c for p in KNOWN_PATHS + [random_path(rng) for _ in range(350)] for c in path_calls(p, True)]
     groups = {}
@@ -732,6 +833,7 @@ def aspath_cases(rng):
         behind = {"u32vec": lent_places(3, []), "route": lent_places(3, []), "display": " 000000"}.get(group, "")
         for change in SPOILT:
             yield f"{group} {said(record(SPOILT_FORM, room=0, **change))} 1 3", "refused 10" + behind
+    yield from literal_paths()
 
 
 def aspath_three(rng):
@@ -764,6 +866,408 @@ def aspath_three(rng):
         yield f"all {joined(r[0])} {joined(r[1])} {joined(r[2])} {r[3]} {r[4]} {len(text)} {len(lent)}", "|".join(row)
 
 
+# ---- psv
+
+WIDE = (60, 110, 125, 140, 150)  # columns that every prefix and address fits into
+
+
+def element(rng):
+    """An element as a listing gives it, any of its fields missing or at an end of its range."""
+
+    def address():
+        v4 = ipaddress.IPv4Address(rng.choice((0, 1, 2**32 - 1, 0xC0000201, rng.randrange(2**32))))
+        groups = [rng.choice((0, 0, 0, 1, 0xFFFF, rng.randrange(2**16))) for _ in range(8)]
+        v6 = ipaddress.IPv6Address(int.from_bytes(b"".join(g.to_bytes(2, "big") for g in groups), "big"))
+        mapped = ipaddress.IPv6Address(0xFFFF_0000_0000 + int(v4))
+        return rng.choice((v4, v4, v6, v6, mapped))
+
+    def number():
+        return rng.choice((None, None, 0, 1, 9, 10, 150, 2**32 - 1, rng.randrange(2**32)))
+
+    def asn():
+        return rng.choice((0, 1, 64496, 65535, 65536, 2**32 - 1, rng.randrange(2**32)))
+
+    prefix = address()
+    numbers = [asn() for _ in range(rng.choice((0, 1, 1, 2, 3, 4, 8, 20)))]
+    return {
+        "type": "A",
+        "time": rng.choice((0, 0, 1, -1, FIRST_SECOND, LAST_SECOND, 1709251200, rng.randrange(FIRST_SECOND, LAST_SECOND))),
+        "peer": address(),
+        "asn": asn(),
+        "prefix": prefix,
+        "len": rng.choice((0, 8, 24, prefix.max_prefixlen, rng.randrange(prefix.max_prefixlen + 1))),
+        "hop": address(),
+        "numbers": numbers,
+        "count": len(numbers),
+        "origin_asn": numbers[-1] if numbers else None,
+        "origin": rng.choice("ie?-"),
+        "pref": number(),
+        "med": number(),
+    }
+
+
+def missing(n):
+    return "-" if n is None else str(n)
+
+
+def asked_of(group, call, e, room):
+    """The question that has a call print an element into so many bytes."""
+    fields = [
+        e["type"], e["bits"] if "bits" in e else bits_of(float(e["time"])), hexed(e["peer"].packed), e["asn"], hexed(e["prefix"].packed), e["len"],
+        hexed(e["hop"].packed), hexed(b"".join(n.to_bytes(4, "big") for n in e["numbers"])), e["count"], missing(e["origin_asn"]), e["origin"],
+        missing(e["pref"]), missing(e["med"]), room,
+    ]
+    return " ".join(str(f) for f in [group, call] + fields)
+
+
+def listing_of(e):
+    """A listing of one line, which yields the element."""
+
+    def line(*texts):
+        out = ""
+        for at, text in zip((3,) + WIDE, texts):
+            out = out.ljust(at) + text
+        return out.rstrip() + "\n"
+
+    path = " ".join([str(n) for n in e["numbers"]] + ([] if e["origin"] == "-" else [e["origin"]]))
+    number = lambda n: "" if n is None else str(n)
+    return (
+        f"BGP table version is 1, local router ID is {e['peer']}, vrf id 0\nDefault local pref 100, local AS {e['asn']}\n"
+        + line("Network", "Next Hop", "Metric", "LocPrf", "Weight", "Path")
+        + line(f"{e['prefix']}/{e['len']}", str(e["hop"]), number(e["med"]), number(e["pref"]), "0", path)
+    ).encode()
+
+
+def printed(elements):
+    """The oracle's PSV line and Display of each element."""
+    for e, a in zip(elements, ask([f"elems {e['time']} {hexed(listing_of(e))}" for e in elements])):
+        count, line = a.split("\t")
+        assert count == "1 utf8=yes", (e, a)
+        psv, display, numbers, origins = line.split("#")
+        assert numbers == (",".join(str(n) for n in e["numbers"]) or "-"), (e, a)
+        yield psv, display
+
+
+def wrote(text, room):
+    return f"wrote {len(text)} {text.ljust(room, '.')}"
+
+
+def refused(number, room):
+    return f"refused {number} {'.' * room}"
+
+
+def psv_cases(rng):
+    """psv and display are the oracle's lines for the element of a listing. listing is 01's example. header is the oracle's psv_header.
+    withdraw is the oracle's line with W for A. origin_asn is the oracle's line with another origin AS than the last number, which no listing gives.
+    short and spoilt are 01's refusals. The bytes that are lent are points before, and stand in the answer as they are then."""
+    e = {"type": "A", "time": 1709251200, "peer": ipaddress.ip_address("192.0.2.254"), "asn": 64500, "prefix": ipaddress.ip_address("198.51.100.0"), "len": 24,
+         "hop": ipaddress.ip_address("192.0.2.1"), "numbers": [64501, 64502], "count": 2, "origin_asn": 64502, "origin": "i", "pref": None, "med": 0}
+    line = "A|1709251200|192.0.2.254|64500|198.51.100.0/24|64501 64502|64502|IGP|192.0.2.1||0||false|||"
+    yield asked_of("listing", "psv", e, 100), wrote(line, 100)
+    f = dict(e, hop=ipaddress.ip_address("192.0.2.2"), numbers=[64503, 64502], pref=150, med=None)
+    line = "A|1709251200|192.0.2.254|64500|198.51.100.0/24|64503 64502|64502|IGP|192.0.2.2|150|||false|||"
+    yield asked_of("listing", "psv", f, 100), wrote(line, 100)
+    [header] = ask(["psv_header"])
+    for room in (0, 1, len(header) - 1, len(header), len(header) + 1, 200):
+        yield f"header header {room}", wrote(header, room) if len(header) <= room else refused(9, room)
+    elements = [element(rng) for _ in range(2400)]
+    for n in (50, 200, 1000):
+        numbers = [rng.randrange(2**32) for _ in range(n)]
+        elements.append(dict(e, numbers=numbers, count=n, origin_asn=numbers[-1]))
+    lines = list(printed(elements))
+    for e, (psv, _) in zip(elements, lines):
+        room = len(psv) + rng.choice((0, 0, 1, 7))
+        yield asked_of("psv", "psv", e, room), wrote(psv, room)
+    some = list(zip(elements, lines))[-500:]
+    for e, (_, display) in some:
+        room = len(display) + rng.choice((0, 0, 1, 7))
+        yield asked_of("display", "display", e, room), wrote(display, room)
+    for e, both in some[:100]:
+        for call, text in zip(("psv", "display"), both):
+            yield asked_of("withdraw", call, dict(e, type="W"), len(text) + 3), wrote("W" + text[1:], len(text) + 3)
+    for e, (psv, display) in some[100:200]:
+        other = rng.choice((None, 0, 2**32 - 1, 64496))
+        text = psv.split("|")
+        text[6] = "" if other is None else str(other)
+        text = "|".join(text)
+        yield asked_of("origin_asn", "psv", dict(e, origin_asn=other), len(text)), wrote(text, len(text))
+        yield asked_of("origin_asn", "display", dict(e, origin_asn=other), len(display)), wrote(display, len(display))
+    for e, both in some[200:350]:
+        for call, text in zip(("psv", "display"), both):
+            for room in sorted({0, rng.randrange(len(text)), len(text) - 1}):
+                yield asked_of("short", call, e, room), refused(9, room)
+    for e, both in some[350:450]:
+        spoilt = [
+            dict(e, len=rng.choice((e["prefix"].max_prefixlen + 1, 255))),
+            dict(e, bits=rng.choice((1 << 63, bits_of(0.5), bits_of(FIRST_SECOND - 1.0), bits_of(LAST_SECOND + 1.0), bits_of(float("inf")), bits_of(1e300)))),
+            dict(e, count=e["count"] + rng.choice((1, 2, 2**62))),
+        ]
+        for call, text in zip(("psv", "display"), both):
+            for s in spoilt:
+                for room in (0, len(text) + 20):
+                    yield asked_of("spoilt", call, s, room), refused(8, room)
+
+
+# ---- psv_stream
+
+LIMIT = 65536  # 01: bytes of a line, of the lines scanned for the column header, and of an output line
+PREAMBLE = [b"BGP table version is 7, local router ID is 192.0.2.254, vrf id 0\n", b"Default local pref 100, local AS 64500\n"]
+COLUMN_LINE = b"   Network          Next Hop            Metric LocPrf Weight Path\n"
+HEADER_LINES = PREAMBLE + [COLUMN_LINE]
+PATH_LINE = b"oix-full-snapshot-2024-03-01-0000.txt\n"
+ROUTE = b"*> 198.51.100.0/24  192.0.2.1                0             0 64501 64502 i\n"
+BLANK_ROUTE = b"*                   192.0.2.2                     150      0 64503 64502 i\n"
+
+
+def is_utf8(b):
+    try:
+        b.decode()
+        return True
+    except UnicodeDecodeError:
+        return False
+
+
+def fed(text):
+    """Its lines, each through its line feed."""
+    return [line for line in (part + b"\n" for part in text.split(b"\n")[:-1])] + [last for last in [text.split(b"\n")[-1]] if last]
+
+
+def stream_refusal(number, line):
+    return b"refused=%d\nline=%d\n" % (number, line)
+
+
+def opened_after(lines):
+    """How many lines the table's header has, or the refusal that the scan meets; the oracle looks for the columns."""
+    text = b""
+    for i, line in enumerate(lines[:64], 1):
+        text += line
+        if len(text) > LIMIT:
+            return None, stream_refusal(13, i)
+        if not is_utf8(line):
+            return None, stream_refusal(1, i)
+        if " columns=-" not in ask([f"header {hexed(text)}"])[0]:
+            return i, b""
+    return None, stream_refusal(2, 0)
+
+
+def stream_output(text):
+    """What table2psv prints: 01's refusals by Python, and the oracle's date, columns and elements, line by line."""
+    path, *lines = fed(text) or [b""]
+    if len(path) > LIMIT:
+        return stream_refusal(13, 0)
+    if not is_utf8(path):
+        return stream_refusal(3, 0)
+    [seconds] = ask([f"timestamp {hexed(path)}"])
+    seconds = "0" if seconds == "none" else seconds
+    n, refusal = opened_after(lines)
+    if n is None:
+        return refusal
+    out = ask(["psv_header"])[0].encode() + b"\n"
+    good = n
+    while good < len(lines) and len(lines[good]) <= LIMIT and is_utf8(lines[good]):
+        good += 1
+    questions = [f"elems_on {seconds} {hexed(b''.join(lines[:i]))}" for i in range(n, good + 1)]
+    before = 0
+    for i, answer in enumerate(ask(questions), n):
+        elements = answer.split("\t")[1:]
+        if len(elements) > before:
+            psv, _, numbers, _ = elements[-1].split("#")
+            if numbers.count(",") + 1 > 16384:
+                return out + stream_refusal(7, i)
+            if len(psv) > LIMIT:
+                return out + stream_refusal(9, i)
+            out += psv.encode() + b"\n"
+        before = len(elements)
+    if good < len(lines):
+        out += stream_refusal(13 if len(lines[good]) > LIMIT else 6, good + 1)
+    return out
+
+
+def repeated(b):
+    """Bytes in hexadecimal, in pieces of at most 4,000 with commas between them; a piece that is repeated has `*` and a count behind it."""
+    pieces, plain, i = [], bytearray(), 0
+    while i < len(b):
+        for size in range(1, 9):
+            unit, n = b[i : i + size], 1
+            while b[i + n * size : i + (n + 1) * size] == unit:
+                n += 1
+            if n * size > 100:
+                break
+        if n * size > 100 or len(plain) == 4000:
+            if plain:
+                pieces.append(plain.hex())
+            plain = bytearray()
+        if n * size > 100:
+            pieces.append(f"{unit.hex()}*{n}")
+            i += n * size
+        else:
+            plain.append(b[i])
+            i += 1
+    if plain:
+        pieces.append(plain.hex())
+    return ",".join(pieces) or "-"
+
+
+def padded(line, size):
+    """A line with spaces before its line feed, so many bytes long."""
+    return line[:-1] + b" " * (size - len(line)) + b"\n"
+
+
+def with_path(route, path):
+    """A route with another path."""
+    return route[:61] + path + b"\n"
+
+
+def limits():
+    """Inputs at each limit and one byte behind it, and refusals in every place."""
+    header, body = b"".join(HEADER_LINES), ROUTE + BLANK_ROUTE
+    whole = PATH_LINE + header + body
+    yield "listing", whole
+    for text in (b"", b"\n", PATH_LINE[:-1], PATH_LINE, b"\n\n", b"x\n" + header + body, header + body, PATH_LINE + header, PATH_LINE + header[:-1], whole[:-1], whole + b"\n \n"):
+        yield "ends", text
+    for size in (LIMIT, LIMIT + 1):
+        for path in (b"x" * (size - 1) + b"\n", b"x" * size, b"\xff" * (size - 1) + b"\n", b"x" * (size - 38) + PATH_LINE):
+            yield "path", path + header + body if path.endswith(b"\n") else path
+    for text in (b"\xff\n", b"\xc3", b"2024.03.01\n", b"2023.02.29/2024.03.01\n", b"a\xe2\x82\xac 1970-01-01-0001\r\n"):
+        yield "path", text + header + body
+    for size in (LIMIT, LIMIT + 1, LIMIT + 100):
+        for at in range(3):
+            lines = list(HEADER_LINES)
+            lines[at] = padded(lines[at], size - len(header) + len(lines[at]))
+            yield "header", PATH_LINE + b"".join(lines) + body
+            yield "header", PATH_LINE + b"".join(lines)[:-1]
+        lines = [b"x" * (size // 4 - 1) + b"\n"] * 3
+        yield "header", PATH_LINE + b"".join(lines) + b" " * (size - 3 * (size // 4) - len(COLUMN_LINE)) + COLUMN_LINE + body
+        yield "header", PATH_LINE + b"x\n" + b"\xff" * (size - 3) + b"\n" + header
+        yield "header", PATH_LINE + b"\xff\n" + b"x" * size + b"\n" + header
+        yield "header", PATH_LINE + b"x" * size
+    for n in (0, 1, 62, 63, 64, 65):
+        yield "scan", PATH_LINE + b"x\n" * n + COLUMN_LINE + body
+        yield "scan", PATH_LINE + b"x\n" * n
+        yield "scan", PATH_LINE + b"x\n" * n + b"\xff\n" + COLUMN_LINE + body
+        yield "scan", PATH_LINE + b"x\n" * n + b"x" * (LIMIT + 1) + b"\n" + COLUMN_LINE
+    for size in (LIMIT - 1, LIMIT, LIMIT + 1, 2 * LIMIT, 3 * LIMIT):
+        for line in (ROUTE, BLANK_ROUTE, b"*> 10.0.0.0/8\n", b"Displayed\n", b"\xff\n"):
+            yield "body", PATH_LINE + header + ROUTE + padded(line, size) + BLANK_ROUTE
+            yield "body", PATH_LINE + header + padded(line, size)[:-1]
+    for n in (16383, 16384, 16385, 20000):
+        yield "numbers", PATH_LINE + header + ROUTE + with_path(ROUTE, b"7 " * n + b"i") + BLANK_ROUTE
+        yield "numbers", PATH_LINE + header + b"*> 10.0.0.0/x\n" + with_path(BLANK_ROUTE, b"7 " * n) + ROUTE
+    yield "numbers", PATH_LINE + header + ROUTE + with_path(BLANK_ROUTE, b"+7 x " * 13000)
+    around = len("A|1709251200|192.0.2.254|64500|198.51.100.0/24||1234|IGP|192.0.2.1||0||false|||")
+    for size in (LIMIT - 1, LIMIT, LIMIT + 1):
+        numbers, more = divmod(size - around - 4, 5)
+        path = b"12345 " * more + b"1234 " * (numbers - more) + b"1234 i"
+        yield "output", PATH_LINE + header + ROUTE + with_path(ROUTE, path) + BLANK_ROUTE
+    lines = fed(whole)
+    for at in range(len(lines)):
+        for bad in (b"\xff", b"\xc3", b"\xed\xa0\x80"):
+            spoilt = lines[:at] + [lines[at][:-1] + bad + b"\n"] + lines[at + 1 :]
+            yield "unreadable", b"".join(spoilt)
+            yield "unreadable", b"".join(spoilt)[:-1]
+
+
+def some_listing(rng):
+    """A small table: its preamble or not, lines of every kind, some of them damaged."""
+
+    def route():
+        prefix = rng.choice((b"", b"", b"", b"198.51.100.0/24", b"10.1.2.3/8", b"192.0.2.0/33", b"2001:db8::/32", b"::/0", b"x"))
+        hop = rng.choice((b"192.0.2.1", b"192.0.2.1", b"2001:db8::1", b"::ffff:1.2.3.4", b"x", b"192.0.02.1"))
+        path = b" ".join(b"%d" % rng.choice((0, 7, 64496, 65536, 2**32 - 1, 2**32)) for _ in range(rng.randrange(5)))
+        line = (rng.choice((b"*> ", b"*  ", b"*>i", b"   ")) + prefix).ljust(20) + hop
+        line = line.ljust(40) + rng.choice((b"", b"0", b"1e3", b"4294967295", b"-1")).rjust(6) + b" " + rng.choice((b"", b"150", b"x")).rjust(6) + b"      0 " + path
+        return line[rng.random() < 0.1 :] + rng.choice((b" i", b" e", b" ?", b"", b" i", b" i ", b" {1,2} i"))
+
+    def line():
+        kind = rng.random()
+        if kind < 0.7:
+            text = route()
+        elif kind < 0.85:
+            text = rng.choice((b"*> 10.0.0.0/8", b"   2001:db8:1::/48", b"*> 10.0.0.0/99", b"*> 123.123.123.123/32", b"*> 2001:db8:1234:5678::/64"))
+        else:
+            text = rng.choice((b"", b"  ", b"Displayed  5 routes and 7 total paths", b"Total number of prefixes 5", "\u00a0x".encode()))
+        if rng.random() < 0.08:
+            k = rng.randrange(len(text) + 1)
+            text = text[:k] + rng.choice((b"\xff", b"\xc3", "\u20ac".encode(), b"\t", b" ")) + text[k:]
+        return text + rng.choice((b"\n", b"\n", b"\n", b"\r\n"))
+
+    path = rng.choice((PATH_LINE, b"rib.2024.03.01.gz\n", b"\n", b"0000-01-01-0000\n", b"9999-12-31-2359\n"))
+    header = [l for l in HEADER_LINES if rng.random() < 0.95]
+    if rng.random() < 0.3:
+        header.insert(rng.randrange(len(header) + 1), rng.choice((b"Status codes: s suppressed\n", b"\n", b"Default local pref 1, local AS x\n", b"\xff\n")))
+    text = path + b"".join(header) + b"".join(line() for _ in range(rng.randrange(12)))
+    return text if rng.random() < 0.8 else text[:-1]
+
+
+def psv_stream_cases(rng):
+    """A question is the least size of the pieces in which the input comes, the input, and what is to be printed; `same` is right: it is printed however
+    the input comes. Date, columns and elements are the oracle's, line by line; refusals are 01's. listing is 01's example."""
+    for group, text in limits():
+        yield f"{group} {1 if len(text) < 3000 else 1000} {repeated(text)} {repeated(stream_output(text))}", "same"
+    for _ in range(600):
+        text = some_listing(rng)
+        yield f"tables 1 {repeated(text)} {repeated(stream_output(text))}", "same"
+
+
+# ---- reader
+
+STAMPS = [1709251200] * 4 + [0, -1, 1, FIRST_SECOND, LAST_SECOND, 10**9]
+
+
+def spelled(text):
+    """A listing as it stands in a case: `_` for a space, `|` for a line feed, `%` with two digits for what is no mark, letter or digit."""
+    plain = {0x20: "_", 0x0A: "|"}
+    return "".join(plain.get(b) or (chr(b) if 0x20 < b < 0x7F and chr(b) not in "_|%" else f"%{b:02x}") for b in text)
+
+
+def read_answer(a):
+    """What reading answers, by the oracle's answer to elems_on: each element's PSV line, then End or the number of the refusal."""
+    if a.startswith("error utf8 line="):
+        return "1 " + a[len("error utf8 line=") :]
+    if a == "error columns":
+        return "2"
+    said, *elements = a.split("\t")
+    count, readable = said.split(" ")[:2]
+    assert int(count) == len(elements), a
+    return "".join(e.split("#")[0] + "\t" for e in elements) + ("end" if readable == "utf8=yes" else "6")
+
+
+def read_cases(group, cases):
+    asked = ask([f"elems_on {seconds} {hexed(text)}" for seconds, text in cases])
+    for (seconds, text), a in zip(cases, asked):
+        yield f"{group} {bits_of(float(seconds))} {spelled(text)}", read_answer(a)
+
+
+# 01, Where a call says no: 4. A NaN of either sign, the infinities, negative zero, fractions, and what is outside the range
+NO_STAMPS = [0x7FF8 << 48, 0xFFF8 << 48, 0x7FF0 << 48, 0xFFF0 << 48, 1 << 63, 1, (1 << 63) + 1]
+NO_STAMPS += [bits_of(x) for x in (0.5, -0.5, 1709251200.25, FIRST_SECOND - 1.0, FIRST_SECOND - 0.5, LAST_SECOND + 1.0, LAST_SECOND + 0.5, 2.0**53, -(2.0**63), 1e300)]
+
+
+def reader_cases(rng):
+    """A timestamp by its 64 bits, and a listing, in which `_` is a space, `|` a line feed, and `%` with two digits a byte. The answer: each
+    element's PSV line with a tab behind it, and then `end`, or the number of the refusal, for 1 with the number of the line at fault. The
+    answers are the oracle's (elems_on), but for no_timestamp, which is 01's; listing is held to 01's two lines as well."""
+    whole = PREAMBLE + COLUMN_LINE + b"\n" + LISTING
+    cases = list(read_cases("listing", [(1709251200, whole)]))
+    line = "A|1709251200|192.0.2.254|64500|198.51.100.0/24|%s|64502|IGP|%s||false|||\t"
+    assert cases[0][1] == line % ("64501 64502", "192.0.2.1||0") + line % ("64503 64502", "192.0.2.2|150|") + "end"
+    yield from cases
+    listings = [(rng.choice(STAMPS), some_listing(rng)) for _ in range(2100)]
+    yield from read_cases("elements", list(dict.fromkeys(listings)))
+    late = [b"x\n" * n + COLUMN_LINE + b"\n" + LISTING for n in (0, 1, 62, 63, 64, 65)]
+    yield from read_cases("line_64", [(0, t) for t in late])
+    feeds = [i + 1 for i, b in enumerate(whole) if b == 10]
+    bad = [whole[:at] + u + whole[at:] for at in [0, *feeds] for u in (b"\xff", b"\xff\n", b"\xed\xa0\x80", b"\xc3")]
+    bad += [b"x\n" * n + b"\xff\n" + COLUMN_LINE + b"\n" for n in (0, 61, 62, 63, 64)]
+    yield from read_cases("unreadable", [(0, t) for t in bad])
+    none = [b"", b"\n", PREAMBLE, LISTING, PREAMBLE + LISTING, PREAMBLE + COLUMN_LINE[:-1], whole[: len(PREAMBLE + COLUMN_LINE)], PREAMBLE + COLUMN_LINE.lower()]
+    yield from read_cases("no_columns", [(0, t) for t in none])
+    for bits in NO_STAMPS:
+        assert second_of(bits) == "none"
+        for text in (whole, b"", b"\xff\n" + whole, PREAMBLE):
+            yield f"no_timestamp {bits} {spelled(text)}", "4"
+
+
 LISTS = {
     "text": {"cases": text_cases},
     "decimal": {"cases": decimal_cases},
@@ -771,6 +1275,9 @@ LISTS = {
     "network": {"cases": network_cases},
     "aspath": {"cases": aspath_cases, "three": aspath_three},
     "aspath_normal": {"cases": aspath_normal_cases, "three": aspath_normal_three},
+    "psv": {"cases": psv_cases},
+    "psv_stream": {"cases": psv_stream_cases},
+    "reader": {"cases": reader_cases},
 }
 
 

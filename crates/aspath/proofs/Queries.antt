@@ -8,16 +8,15 @@ use native.Mathlib.Nat.{add-assoc, add-zero, mul-assoc, mul-one, one-mul, zero-m
 use native.Mathlib.Omega.{arith}
 use mir.Syntax.{w64}
 use mir.Val.{Fits}
-use lib.ListN.{length, getD, take, drop, length-append}
+use lib.ListN.{length, getD, drop, length-append}
 use lib.Seq.{length-take-le}
 use lib.Dec.{ltb, eqb, eqb·suc-zero}
 use borrow.Author.Tests.{lt-ltb, le-ltb, ne-eqb, eqb-true, eqb-false}
-use Rattle.aspath.specs.Lists.{foldMap, any}
+use Rattle.aspath.specs.Lists.{foldMap}
 use Rattle.aspath.specs.Record.{Segment, spoilt, segmentsOf, path, numbersOf}
-use Rattle.aspath.specs.Queries.{segmentRouteLen, routeLen, routeLenAnswer, choices, variations, emptySet, noRoute, variationsAnswer, containsAnswer}
+use Rattle.aspath.specs.Queries.{segmentRouteLen, routeLen, routeLenAnswer, choices, variations, emptySet, noRoute, variationsAnswer}
 use Rattle.aspath.specs.declared.RouteLen.the-variants.{Len}
 use Rattle.aspath.specs.declared.Variations.the-variants.{Count, TooMany}
-use Rattle.aspath.specs.declared.Contains.the-variants.{Is}
 use Rattle.aspath.proofs.Record.{segments-count, path-numbers, unspoilt-path, unspoilt-record, shape-more, shape-end}
 
 segment-small : (k l : ℕ) → segmentRouteLen k l ≤ 1 + l
@@ -77,12 +76,6 @@ empty-choice k l = go (eqb k 1)
     go : (a : Bool) → a && eqb l 0 ≡ eqb (cond a l 1) 0
     go true = refl
     go false = refl
-
--- a number of some segment is a number of the list
-pub contains-is : (ks ls ns : List ℕ) (s n a : ℕ) → spoilt ks ls ns s n ≡ false → (r : Bool) → r ≡ any (λ x. eqb x a) (take n ns)
-    → Is r ≡ containsAnswer a (path ks ls ns s n)
-contains-is ks ls ns s n a sound r e =
-    rw (unspoilt-path ks ls ns s n sound, e, path-numbers ks ls ns s n _ (unspoilt-path ks ls ns s n sound))
 
 -- there is no route exactly where a set has nothing to choose from
 pub no-route : (p : List Segment) → noRoute p ≡ eqb (variations p) 0

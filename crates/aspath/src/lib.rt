@@ -3,10 +3,10 @@ ghost use mathlib.Core.Path.{_≡_};
 ghost use Prim.Native.Nat.{_≤_, _<_};
 ghost use lib.ListN.{length};
 ghost use mathlib.Core.Bool.{false};
-ghost use lib.Dec.{ltb, eqb};
+ghost use lib.Dec.{ltb};
 ghost use Rattle.aspath.specs.Lists.{any, sum};
 ghost use Rattle.aspath.specs.Record.{spoilt, segmentsOf, path};
-ghost use Rattle.aspath.specs.Queries.{segmentRouteLen, routeLenAnswer, choices, variations, noRoute, variationsAnswer, contains, containsAnswer, single, originAnswer, collectorAnswer};
+ghost use Rattle.aspath.specs.Queries.{segmentRouteLen, routeLenAnswer, choices, variations, noRoute, variationsAnswer};
 
 // Whether some kind is over 3. No early exit: the loop is for the vector unit.
 fn any_kind_over(kinds: &[u8]) -> bool
@@ -73,18 +73,6 @@ pub enum RouteLen {
 pub enum Variations {
     Count(u64),
     TooMany,
-    Spoilt,
-}
-
-pub enum Contains {
-    Is(bool),
-    Spoilt,
-}
-
-// What a call on the first or the last number answers.
-pub enum End {
-    Number(u32),
-    Nothing,
     Spoilt,
 }
 
@@ -187,103 +175,4 @@ pub fn num_route_variations(
         return Variations::Count(0);
     }
     product_of(kinds, lengths, numbers, segments, count)
-}
-
-fn has_number(numbers: &[u32], asn: u32) -> bool
-    ensures { λ r. ⌜ r ≡ any (λ n. eqb n asn) (now (numbers .entry)) ⌝ }
-{
-    let mut found = false;
-    let mut i = 0;
-    while i < numbers.len() {
-        found = found | (numbers[i] == asn);
-        i += 1;
-    }
-    found
-}
-
-pub fn contains_asn(
-    kinds: &[u8],
-    lengths: &[u32],
-    numbers: &[u32],
-    segments: usize,
-    count: usize,
-    asn: u32,
-) -> Contains
-    ensures { λ r. ⌜ r ≡ containsAnswer asn (path (now (kinds .entry)) (now (lengths .entry)) (now (numbers .entry)) segments count) ⌝ }
-{
-    if is_spoilt(kinds, lengths, numbers, segments, count) {
-        return Contains::Spoilt;
-    }
-    Contains::Is(has_number(&numbers[..count], asn))
-}
-
-// Whether a segment of this kind and length has one number at its end: no set of several does.
-fn is_single(kind: u8, length: u32) -> bool
-    ensures { λ r. ⌜ r ≡ single kind length ⌝ }
-{
-    ((kind == 0) & (0 < length)) | ((kind == 1) & (length == 1))
-}
-
-fn last_number(kinds: &[u8], lengths: &[u32], numbers: &[u32], segments: usize, count: usize) -> End
-    requires { ⌜ spoilt (now kinds) (now lengths) (now numbers) segments count ≡ false ⌝ }
-    ensures { λ r. ⌜ r ≡ originAnswer (path (now (kinds .entry)) (now (lengths .entry)) (now (numbers .entry)) segments count) ⌝ }
-{
-    if segments == 0 {
-        return End::Nothing;
-    }
-    if is_single(kinds[segments - 1], lengths[segments - 1]) {
-        End::Number(numbers[count - 1])
-    } else {
-        End::Nothing
-    }
-}
-
-pub fn get_origin_opt(
-    kinds: &[u8],
-    lengths: &[u32],
-    numbers: &[u32],
-    segments: usize,
-    count: usize,
-) -> End
-    ensures { λ r. ⌜ r ≡ originAnswer (path (now (kinds .entry)) (now (lengths .entry)) (now (numbers .entry)) segments count) ⌝ }
-{
-    if is_spoilt(kinds, lengths, numbers, segments, count) {
-        return End::Spoilt;
-    }
-    last_number(kinds, lengths, numbers, segments, count)
-}
-
-fn first_number(
-    kinds: &[u8],
-    lengths: &[u32],
-    numbers: &[u32],
-    segments: usize,
-    count: usize,
-) -> End
-    requires { ⌜ spoilt (now kinds) (now lengths) (now numbers) segments count ≡ false ⌝ }
-    ensures { λ r. ⌜ r ≡ collectorAnswer (path (now (kinds .entry)) (now (lengths .entry)) (now (numbers .entry)) segments count) ⌝ }
-{
-    if segments == 0 {
-        return End::Nothing;
-    }
-    if is_single(kinds[0], lengths[0]) {
-        End::Number(numbers[0])
-    } else {
-        End::Nothing
-    }
-}
-
-pub fn get_collector_opt(
-    kinds: &[u8],
-    lengths: &[u32],
-    numbers: &[u32],
-    segments: usize,
-    count: usize,
-) -> End
-    ensures { λ r. ⌜ r ≡ collectorAnswer (path (now (kinds .entry)) (now (lengths .entry)) (now (numbers .entry)) segments count) ⌝ }
-{
-    if is_spoilt(kinds, lengths, numbers, segments, count) {
-        return End::Spoilt;
-    }
-    first_number(kinds, lengths, numbers, segments, count)
 }

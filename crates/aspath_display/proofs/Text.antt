@@ -11,9 +11,9 @@ use borrow.Author.Tests.{eq-eqb, ne-eqb, le-leb, lt-leb}
 use mir.Syntax.{w64}
 use mir.Val.{Fits}
 use lib.Seq.{drop-cons}
-use Rattle.decimal.specs.Printed.{decimal}
-use Rattle.decimal.specs.Output.{Written}
-use Rattle.decimal.proofs.Output.{Left, next-left, none-left, nothing, kept, whole}
+use Rattle.decimal_display.specs.Printed.{decimal}
+use Rattle.output.specs.Output.{Written}
+use Rattle.output.proofs.Output.{Left, next-left, none-left, nothing, kept, whole}
 use Rattle.aspath.specs.Record.{spoilt, segmentsOf, path}
 use Rattle.aspath.proofs.Record.{spoilt-path, unspoilt-path, unspoilt-record, segments-count, kind-at}
 use Rattle.aspath.proofs.Walk.{Place, segment-next, numbers-here, end-small}

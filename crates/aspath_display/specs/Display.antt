@@ -6,8 +6,8 @@ use mathlib.Core.Bool.{Bool, true, false, cond, _||_}
 use mathlib.Core.Option.{Option, some, none}
 use lib.ListN.{length}
 use lib.Dec.{leb, eqb}
-use Rattle.decimal.specs.Printed.{decimal}
-use Rattle.decimal.specs.Output.{front}
+use Rattle.decimal_display.specs.Printed.{decimal}
+use Rattle.output.specs.Output.{front}
 use Rattle.aspath.specs.Record.{Segment}
 use Rattle.aspath_display.specs.declared.Shown.{Shown}
 use Rattle.aspath_display.specs.declared.Shown.the-variants.{Wrote, TooShort, Spoilt}

@@ -4,8 +4,8 @@ ghost use mathlib.Core.Bool.{true, false};
 ghost use mathlib.Core.List.{[], _∷_, _++_};
 ghost use Prim.Native.Nat.{_≤_};
 ghost use lib.ListN.{length};
-ghost use Rattle.decimal.specs.Printed.{decimal};
-ghost use Rattle.decimal.specs.Output.{Written};
+ghost use Rattle.decimal_display.specs.Printed.{decimal};
+ghost use Rattle.output.specs.Output.{Written};
 ghost use Rattle.aspath.specs.Record.{spoilt, segmentsOf, path};
 ghost use Rattle.aspath_display.specs.Display.{lead, separated, segmentText, pathText, Measured, Displayed};
 
@@ -15,11 +15,11 @@ pub enum Shown {
     Spoilt,
 }
 
-// A number behind its separator, of which the first has none.
-fn number_len(first: bool, sep: u8, a: u32) -> usize
+// A number behind its separator, of which the first has none: how long it is, and written.
+pub fn number_len(first: bool, sep: u8, a: u32) -> usize
     ensures { λ r. ⌜ Measured (lead first sep ++ decimal a) 21 r ⌝ }
 {
-    let n = decimal::decimal_len(a as u64);
+    let n = decimal_display::decimal_len(a as u64);
     if first { n } else { 1 + n }
 }
 
@@ -29,7 +29,7 @@ fn write_lead(first: bool, sep: u8, out: &mut [u8], at: usize) -> usize
     if first {
         at
     } else {
-        decimal::write_byte(sep, out, at)
+        output::write_byte(sep, out, at)
     }
 }
 
@@ -37,7 +37,7 @@ fn write_number(first: bool, sep: u8, a: u32, out: &mut [u8], at: usize) -> usiz
     ensures { λ r. ⌜ Written (lead first sep ++ decimal a) (now (out .entry)) at (now (out .exit)) r ⌝ }
 {
     let behind = write_lead(first, sep, out, at);
-    decimal::write_u32(a, out, behind)
+    decimal_display::write_u32(a, out, behind)
 }
 
 fn numbers_len(numbers: &[u32], sep: u8) -> usize
@@ -55,7 +55,7 @@ fn numbers_len(numbers: &[u32], sep: u8) -> usize
     len
 }
 
-fn write_numbers(numbers: &[u32], sep: u8, out: &mut [u8], at: usize) -> usize
+pub fn write_numbers(numbers: &[u32], sep: u8, out: &mut [u8], at: usize) -> usize
     ensures { λ r. ⌜ Written (separated sep decimal true (now (numbers .entry))) (now (out .entry)) at (now (out .exit)) r ⌝ }
 {
     let mut place = at;
@@ -85,9 +85,9 @@ fn segment_len(kind: u8, part: &[u32]) -> usize
 fn write_set(part: &[u32], out: &mut [u8], at: usize) -> usize
     ensures { λ r. ⌜ Written ((123 ∷ []) ++ separated 44 decimal true (now (part .entry)) ++ (125 ∷ [])) (now (out .entry)) at (now (out .exit)) r ⌝ }
 {
-    let inside = decimal::write_byte(b'{', out, at);
+    let inside = output::write_byte(b'{', out, at);
     let behind = write_numbers(part, b',', out, inside);
-    decimal::write_byte(b'}', out, behind)
+    output::write_byte(b'}', out, behind)
 }
 
 fn write_segment(kind: u8, part: &[u32], out: &mut [u8], at: usize) -> usize
@@ -107,8 +107,8 @@ fn item_len(first: bool, kind: u8, part: &[u32]) -> usize
     requires { ⌜ length (now part) ≤ 16384 ⌝ }
     ensures { λ r. ⌜ Measured (lead first 32 ++ segmentText kind (now (part .entry))) 344067 r ⌝ }
 {
-    let n = segment_len(kind, part);
-    if first { n } else { 1 + n }
+    let len = segment_len(kind, part);
+    if first { len } else { 1 + len }
 }
 
 fn write_item(first: bool, kind: u8, part: &[u32], out: &mut [u8], at: usize) -> usize

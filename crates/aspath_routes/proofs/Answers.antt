@@ -8,8 +8,8 @@ use native.Mathlib.Omega.{arith}
 use lib.ListN.{length, getElem?}
 use lib.Dec.{ltb}
 use borrow.Author.Tests.{le-leb, lt-leb}
-use Rattle.decimal.specs.Output.{Written}
-use Rattle.decimal.proofs.Output.{kept, whole}
+use Rattle.output.specs.Output.{Written}
+use Rattle.output.proofs.Output.{kept, whole}
 use Rattle.aspath.specs.Record.{spoilt, segmentsOf, path}
 use Rattle.aspath.specs.Queries.{variations, variationsAnswer, routeLen, routeLenAnswer}
 use Rattle.aspath.specs.declared.RouteLen.{RouteLen}

@@ -11,8 +11,8 @@ use mir.Val.{Fits}
 use lib.ListN.{length, getD, take, drop, length-append, length-take, drop-of-length-le}
 use lib.Dec.{eqb}
 use borrow.Author.Tests.{le-leb, lt-leb, not-true, not-false}
-use Rattle.decimal.specs.Output.{Written}
-use Rattle.decimal.proofs.Output.{Left, next-left, none-left, kept, whole}
+use Rattle.output.specs.Output.{Written}
+use Rattle.output.proofs.Output.{Left, next-left, none-left, kept, whole}
 use Rattle.aspath.specs.Lists.{foldMap}
 use Rattle.aspath.specs.Record.{Segment, spoilt, segmentsOf, path}
 use Rattle.aspath.proofs.Record.{spoilt-path, unspoilt-path, segments-count}

@@ -9,8 +9,8 @@ use lib.ListN.{length, getD, drop, drop-of-length-le}
 use lib.Seq.{drop-cons}
 use lib.Dec.{eqb}
 use borrow.Author.Tests.{not-true, not-false}
-use Rattle.decimal.specs.Output.{Written}
-use Rattle.decimal.proofs.Output.{Left, next-left, none-left, nothing, then}
+use Rattle.output.specs.Output.{Written}
+use Rattle.output.proofs.Output.{Left, next-left, none-left, nothing, then}
 use Rattle.aspath_routes.specs.Runs.{after, runs}
 
 pub runs-none : (d : Bool) (s : List ℕ) → length s ≡ 0 → runs d s ≡ []

@@ -8,8 +8,8 @@ use native.Mathlib.Omega.{arith}
 use lib.ListN.{length, getD, take, drop, drop-of-length-le}
 use lib.Dec.{eqb, ltb}
 use borrow.Author.Tests.{eq-eqb, ne-eqb, le-ltb, lt-ltb}
-use Rattle.decimal.specs.Output.{Written}
-use Rattle.decimal.proofs.Output.{nothing, Left, next-left, none-left}
+use Rattle.output.specs.Output.{Written}
+use Rattle.output.proofs.Output.{nothing, Left, next-left, none-left}
 use Rattle.aspath.specs.Record.{spoilt, segmentsOf}
 use Rattle.aspath.proofs.Record.{segments-count, kind-at, length-at}
 use Rattle.aspath.proofs.Walk.{Place, segment-next, numbers-here}

@@ -6,7 +6,7 @@ use mathlib.Core.Bool.{Bool, true, false, cond, _&&_, _||_}
 use mathlib.Core.Option.{Option, some, none}
 use lib.ListN.{length}
 use lib.Dec.{leb, eqb}
-use Rattle.decimal.specs.Output.{front}
+use Rattle.output.specs.Output.{front}
 use Rattle.aspath.specs.Lists.{foldMap, concatOf}
 use Rattle.aspath.specs.Record.{Segment}
 use Rattle.aspath_routes.specs.Runs.{runs}

@@ -3,7 +3,7 @@ ghost use mathlib.Core.Path.{_≡_};
 ghost use mathlib.Core.Bool.{false};
 ghost use mathlib.Core.List.{[], _∷_};
 ghost use lib.ListN.{length};
-ghost use Rattle.decimal.specs.Output.{Written};
+ghost use Rattle.output.specs.Output.{Written};
 ghost use Rattle.aspath.specs.Record.{spoilt, segmentsOf, path};
 ghost use Rattle.aspath.specs.Queries.{variationsAnswer};
 ghost use Rattle.aspath_routes.specs.Runs.{runs};
@@ -19,7 +19,7 @@ pub enum U32Vec {
     Spoilt,
 }
 
-// A writer of one number, where there is a place (decimal's Output).
+// A writer of one number, where there is a place (output's Output).
 fn write_number(a: u32, out: &mut [u32], at: usize) -> usize
     ensures { λ r. ⌜ Written (a ∷ []) (now (out .entry)) at (now (out .exit)) r ⌝ }
 {

@@ -1,27 +1,21 @@
 // Runs the cases of the path crates (data/cases.txt, then data/three.txt) and prints a line for each group.
 //
-// A question is a call's name, the record's kinds, lengths and numbers (bytes; four for each number), its two counts,
-// the call's argument and how many places or bytes are lent to it. `all` asks every call of one record, with one digit for
-// each kind, length and number; the argument is then the number of bytes lent.
-ghost use mathlib.Core.Path.{_≡_};
-ghost use lib.ListN.{length};
-use aspath::Contains;
-use aspath::End;
+// A question is a call's name (or one that begins with it), the record's kinds, lengths and numbers (bytes; four for each
+// number), its two counts, the call's argument and how many places or bytes are lent to it. `all` asks every call of one
+// record, with one digit for each kind, length and number; the argument is then the number of bytes lent.
 use aspath::RouteLen;
 use aspath::Variations;
 use aspath_display::Shown;
+use aspath_numbers::Contains;
+use aspath_numbers::End;
 use aspath_routes::Route;
 use aspath_routes::U32Vec;
 use cases::Tally;
-
-fn refused(out: &mut [u8], at: usize, number: u64) -> usize {
-    let k = cases::put(out, at, b"refused ");
-    cases::put_decimal(out, k, number)
-}
+use path_cases::Loaded;
 
 fn put_len(out: &mut [u8], at: usize, r: RouteLen) -> usize {
     let RouteLen::Len(n) = r else {
-        return refused(out, at, 10);
+        return path_cases::refused(out, at, 10);
     };
     cases::put_decimal(out, at, n as u64)
 }
@@ -29,14 +23,14 @@ fn put_len(out: &mut [u8], at: usize, r: RouteLen) -> usize {
 fn put_variations(out: &mut [u8], at: usize, r: Variations) -> usize {
     match r {
         Variations::Count(n) => cases::put_decimal(out, at, n),
-        Variations::TooMany => refused(out, at, 11),
-        Variations::Spoilt => refused(out, at, 10),
+        Variations::TooMany => path_cases::refused(out, at, 11),
+        Variations::Spoilt => path_cases::refused(out, at, 10),
     }
 }
 
 fn put_contains(out: &mut [u8], at: usize, r: Contains) -> usize {
     let Contains::Is(yes) = r else {
-        return refused(out, at, 10);
+        return path_cases::refused(out, at, 10);
     };
     cases::put_yes_no(out, at, yes)
 }
@@ -45,46 +39,34 @@ fn put_end(out: &mut [u8], at: usize, r: End) -> usize {
     match r {
         End::Number(n) => cases::put_decimal(out, at, n as u64),
         End::Nothing => cases::put(out, at, b"none"),
-        End::Spoilt => refused(out, at, 10),
+        End::Spoilt => path_cases::refused(out, at, 10),
     }
-}
-
-// All places that were lent, each behind the mark.
-fn put_places(out: &mut [u8], at: usize, mark: &[u8], places: &[u32]) -> usize {
-    let mut k = at;
-    let mut i = 0;
-    while i < places.len() {
-        k = cases::put(out, k, mark);
-        k = decimal::write_u32(places[i], out, k);
-        i += 1;
-    }
-    k
 }
 
 fn put_vec(out: &mut [u8], at: usize, r: U32Vec) -> usize {
     match r {
         U32Vec::Count(n) => cases::put_decimal(out, at, n as u64),
         U32Vec::Nothing => cases::put(out, at, b"none"),
-        U32Vec::FewPlaces => refused(out, at, 7),
-        U32Vec::Spoilt => refused(out, at, 10),
+        U32Vec::FewPlaces => path_cases::refused(out, at, 7),
+        U32Vec::Spoilt => path_cases::refused(out, at, 10),
     }
 }
 
 fn put_route(out: &mut [u8], at: usize, r: Route) -> usize {
     match r {
         Route::Count(n) => cases::put_decimal(out, at, n as u64),
-        Route::FewPlaces => refused(out, at, 7),
-        Route::NoSuchRoute => refused(out, at, 12),
-        Route::TooMany => refused(out, at, 11),
-        Route::Spoilt => refused(out, at, 10),
+        Route::FewPlaces => path_cases::refused(out, at, 7),
+        Route::NoSuchRoute => path_cases::refused(out, at, 12),
+        Route::TooMany => path_cases::refused(out, at, 11),
+        Route::Spoilt => path_cases::refused(out, at, 10),
     }
 }
 
 fn put_shown(out: &mut [u8], at: usize, r: Shown) -> usize {
     match r {
         Shown::Wrote(n) => cases::put_decimal(out, at, n as u64),
-        Shown::TooShort => refused(out, at, 9),
-        Shown::Spoilt => refused(out, at, 10),
+        Shown::TooShort => path_cases::refused(out, at, 9),
+        Shown::Spoilt => path_cases::refused(out, at, 10),
     }
 }
 
@@ -99,40 +81,40 @@ fn ask(
     arg: usize,
     out: &mut [u8],
 ) -> usize {
-    if scan::same(name, b"route_len") {
+    if scan::starts_with(name, b"route_len") {
         return put_len(
             out,
             0,
             aspath::route_len(kinds, lengths, numbers, segments, count),
         );
     }
-    if scan::same(name, b"variations") {
+    if scan::starts_with(name, b"variations") {
         return put_variations(
             out,
             0,
             aspath::num_route_variations(kinds, lengths, numbers, segments, count),
         );
     }
-    if scan::same(name, b"contains") {
+    if scan::starts_with(name, b"contains") {
         let asn = (arg % 4294967296) as u32;
         return put_contains(
             out,
             0,
-            aspath::contains_asn(kinds, lengths, numbers, segments, count, asn),
+            aspath_numbers::contains_asn(kinds, lengths, numbers, segments, count, asn),
         );
     }
-    if scan::same(name, b"origin") {
+    if scan::starts_with(name, b"origin") {
         return put_end(
             out,
             0,
-            aspath::get_origin_opt(kinds, lengths, numbers, segments, count),
+            aspath_numbers::get_origin_opt(kinds, lengths, numbers, segments, count),
         );
     }
-    if scan::same(name, b"collector") {
+    if scan::starts_with(name, b"collector") {
         return put_end(
             out,
             0,
-            aspath::get_collector_opt(kinds, lengths, numbers, segments, count),
+            aspath_numbers::get_collector_opt(kinds, lengths, numbers, segments, count),
         );
     }
     0
@@ -150,7 +132,7 @@ fn write(
     places: &mut [u32],
     out: &mut [u8],
 ) -> usize {
-    if scan::same(name, b"u32vec") {
+    if scan::starts_with(name, b"u32vec") {
         let r = aspath_routes::to_u32_vec_opt(
             kinds,
             lengths,
@@ -161,9 +143,9 @@ fn write(
             places,
         );
         let k = put_vec(out, 0, r);
-        return put_places(out, k, b",", places);
+        return cases::put_places(out, k, b",", places);
     }
-    if scan::same(name, b"route") {
+    if scan::starts_with(name, b"route") {
         let r = aspath_routes::numbered_route(
             kinds,
             lengths,
@@ -174,7 +156,7 @@ fn write(
             places,
         );
         let k = put_route(out, 0, r);
-        return put_places(out, k, b",", places);
+        return cases::put_places(out, k, b",", places);
     }
     0
 }
@@ -193,70 +175,6 @@ fn show(
     let k = put_shown(out, 0, r);
     let m = cases::put(out, k, b" ");
     cases::put_hex(out, m, bytes)
-}
-
-fn wide(b: u8) -> u32 {
-    b as u32
-}
-
-fn byte_numbers(s: &[u8], out: &mut [u32]) -> usize {
-    let mut i = 0;
-    while i < out.len() {
-        if s.len() <= i {
-            return i;
-        }
-        out[i] = wide(s[i]);
-        i += 1;
-    }
-    i
-}
-
-fn word(a: u8, b: u8, c: u8, d: u8) -> u32 {
-    (a as u32) * 16777216 + (b as u32) * 65536 + (c as u32) * 256 + (d as u32)
-}
-
-fn word_numbers(s: &[u8], out: &mut [u32]) -> usize {
-    let mut i = 0;
-    while i < out.len() {
-        let k = i * 4;
-        if s.len() < 4 {
-            return i;
-        }
-        if s.len() - 4 < k {
-            return i;
-        }
-        out[i] = word(s[k], s[k + 1], s[k + 2], s[k + 3]);
-        i += 1;
-    }
-    i
-}
-
-fn digit(b: u8) -> u8 {
-    if b < 48 { 0 } else { b - 48 }
-}
-
-fn digits(s: &[u8], out: &mut [u8]) -> usize {
-    let mut i = 0;
-    while i < out.len() {
-        if s.len() <= i {
-            return i;
-        }
-        out[i] = digit(s[i]);
-        i += 1;
-    }
-    i
-}
-
-fn first_numbers(s: &[u32], n: usize) -> &[u32] {
-    if s.len() < n { s } else { &s[..n] }
-}
-
-fn first_places(s: &mut [u32], n: usize) -> &mut [u32] {
-    if s.len() < n { s } else { &mut s[..n] }
-}
-
-fn first_bytes(s: &mut [u8], n: usize) -> &mut [u8] {
-    if s.len() < n { s } else { &mut s[..n] }
 }
 
 // What `all` asks, in this order: route_len, num_route_variations; contains_asn of 1 and of 2; get_origin_opt,
@@ -287,7 +205,7 @@ fn all_contains(
     at: usize,
 ) -> usize {
     let k = cases::put(out, at, b"|");
-    let r = aspath::contains_asn(kinds, lengths, numbers, segments, count, asn);
+    let r = aspath_numbers::contains_asn(kinds, lengths, numbers, segments, count, asn);
     put_contains(out, k, r)
 }
 
@@ -301,10 +219,10 @@ fn all_ends(
     at: usize,
 ) -> usize {
     let k = cases::put(out, at, b"|");
-    let first = aspath::get_origin_opt(kinds, lengths, numbers, segments, count);
+    let first = aspath_numbers::get_origin_opt(kinds, lengths, numbers, segments, count);
     let m = put_end(out, k, first);
     let p = cases::put(out, m, b"|");
-    let last = aspath::get_collector_opt(kinds, lengths, numbers, segments, count);
+    let last = aspath_numbers::get_collector_opt(kinds, lengths, numbers, segments, count);
     put_end(out, p, last)
 }
 
@@ -324,7 +242,7 @@ fn all_reading(
 
 fn put_written(out: &mut [u8], at: usize, places: &[u32], n: usize) -> usize {
     let k = cases::put(out, at, b" ");
-    put_places(out, k, b"", first_numbers(places, n))
+    cases::put_places(out, k, b"", path_cases::first_numbers(places, n))
 }
 
 fn all_vec(
@@ -440,7 +358,7 @@ fn all_written(
         at,
     );
     let m = cases::put(out, k, b"|");
-    put_places(out, m, b"", places)
+    cases::put_places(out, m, b"", places)
 }
 
 fn all_vecs(
@@ -514,8 +432,8 @@ fn answer(
             numbers,
             segments,
             count,
-            first_places(places, room),
-            first_bytes(bytes, arg),
+            cases::first_places(places, room),
+            path_cases::first_bytes(bytes, arg),
             out,
         );
     }
@@ -523,14 +441,14 @@ fn answer(
     if k != 0 {
         return k;
     }
-    if scan::same(name, b"display") {
+    if scan::starts_with(name, b"display") {
         return show(
             kinds,
             lengths,
             numbers,
             segments,
             count,
-            first_bytes(bytes, room),
+            path_cases::first_bytes(bytes, room),
             out,
         );
     }
@@ -542,54 +460,9 @@ fn answer(
         segments,
         count,
         arg,
-        first_places(places, room),
+        cases::first_places(places, room),
         out,
     )
-}
-
-// How many of each a question has.
-struct Loaded {
-    kinds: usize,
-    lengths: usize,
-    numbers: usize,
-}
-
-fn load(
-    line: &[u8],
-    kinds: &mut [u8],
-    s: &mut [u8],
-    lengths: &mut [u32],
-    numbers: &mut [u32],
-) -> Loaded {
-    let nk = cases::hex(cases::field(line, 1), kinds);
-    let ml = cases::hex(cases::field(line, 2), s);
-    let nl = byte_numbers(cases::part(s, 0, ml), lengths);
-    let mn = cases::hex(cases::field(line, 3), s);
-    let nn = word_numbers(cases::part(s, 0, mn), numbers);
-    Loaded {
-        kinds: nk,
-        lengths: nl,
-        numbers: nn,
-    }
-}
-
-fn load_digits(
-    line: &[u8],
-    kinds: &mut [u8],
-    s: &mut [u8],
-    lengths: &mut [u32],
-    numbers: &mut [u32],
-) -> Loaded {
-    let nk = digits(cases::field(line, 1), kinds);
-    let ml = digits(cases::field(line, 2), s);
-    let nl = byte_numbers(cases::part(s, 0, ml), lengths);
-    let mn = digits(cases::field(line, 3), s);
-    let nn = byte_numbers(cases::part(s, 0, mn), numbers);
-    Loaded {
-        kinds: nk,
-        lengths: nl,
-        numbers: nn,
-    }
 }
 
 fn load_any(
@@ -600,9 +473,9 @@ fn load_any(
     numbers: &mut [u32],
 ) -> Loaded {
     if scan::same(cases::field(line, 0), b"all") {
-        return load_digits(line, kinds, s, lengths, numbers);
+        return path_cases::load_digits(line, kinds, s, lengths, numbers);
     }
-    load(line, kinds, s, lengths, numbers)
+    path_cases::load(line, 1, kinds, s, lengths, numbers)
 }
 
 fn counted(
@@ -642,8 +515,8 @@ fn one(
         list,
         at,
         cases::part(kinds, 0, nk),
-        first_numbers(lengths, nl),
-        first_numbers(numbers, nn),
+        path_cases::first_numbers(lengths, nl),
+        path_cases::first_numbers(numbers, nn),
         places,
         bytes,
         out,
@@ -682,15 +555,8 @@ fn run(list: &[u8]) {
     cases::report(t, list);
 }
 
-// Room for a list of cases.
-fn list_buffer() -> [u8; 2097152]
-    ensures { λ r. ⌜ 2097152 ≡ length r ⌝ }
-{
-    [0; 2097152]
-}
-
 fn main() {
-    let mut list = list_buffer();
+    let mut list = cases::list_buffer();
     let n = io::read_full(os::open_read(b"cases.txt"), &mut list);
     run(&list[..n]);
     let m = io::read_full(os::open_read(b"three.txt"), &mut list);

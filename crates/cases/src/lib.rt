@@ -15,6 +15,13 @@ ghost use Rattle.scan.specs.Lists.{endWhile};
 ghost use Rattle.scan.specs.Search.{equal};
 ghost use Rattle.cases.specs.Cases.{partOf, notTab, answerOf, counted};
 
+// Room for a list of cases.
+pub fn list_buffer() -> [u8; 2097152]
+    ensures { λ r. ⌜ 2097152 ≡ length r ⌝ }
+{
+    [0; 2097152]
+}
+
 // Reads the list, the file cases.txt, into an array of 2 MiB: how many bytes.
 pub fn load(list: &mut [u8; 2097152]) -> usize
     ensures { λ r. ⌜ Counts r (now (list .exit)) ⌝ }
@@ -204,6 +211,23 @@ pub fn put_decimal(out: &mut [u8], at: usize, n: u64) -> usize {
     let mut digits = [0; 20];
     let k = io::decimal(n, &mut digits);
     put(out, at, &digits[..k])
+}
+
+// What all places of a lent list hold, each in decimal behind the mark.
+pub fn put_places(out: &mut [u8], at: usize, mark: &[u8], places: &[u32]) -> usize {
+    let mut k = at;
+    let mut i = 0;
+    while i < places.len() {
+        k = put(out, k, mark);
+        k = decimal_display::write_u32(places[i], out, k);
+        i += 1;
+    }
+    k
+}
+
+// The first n places of a list, all where there are fewer.
+pub fn first_places(s: &mut [u32], n: usize) -> &mut [u32] {
+    if s.len() < n { s } else { &mut s[..n] }
 }
 
 // `yes` or `no`.

@@ -13,7 +13,7 @@ use Rattle.scan.specs.Words.{words, nextWord}
 use Rattle.scan.specs.declared.Word.{Word}
 use Rattle.scan.specs.declared.Word.the-variants.{At, Nothing}
 use Rattle.scan.proofs.WordLaws.{words-none, words-some}
-use Rattle.columns.specs.Columns.{begins, wordsBegin, orElse, placeAt, placeFrom, place, rising, columnHeader, shiftLeft}
+use Rattle.columns.specs.Columns.{begins, wordsBegin, orElse, placeAt, placeFrom, place, areRising, rising, five, columnHeader, shiftLeft}
 use Rattle.columns.specs.declared.Columns.{Columns}
 use Rattle.columns.specs.declared.ColumnsRead.the-variants.{Found, Nothing as NoColumns}
 use Rattle.columns.specs.declared.Place.{Place}
@@ -137,12 +137,12 @@ module _ (s : List ℕ) (p₁ : Place) (q₁ : p₁ ≡ place (ascii "Next Hop")
             unfolding columnHeader
             all-five = rw (← q₁, f₁, ← q₂, f₂, ← q₃, f₃, ← q₄, f₄, ← q₅, f₅)
 
-            pub rise : (ltb n m && ltb m l && ltb l w && ltb w p) ≡ true
-                → Found (record { «next_hop» = n; metric = m; «local_pref» = l; weight = w; path = p }) ≡ columnHeader s
-            rise t = sym (all-five ∙ rw t)
+            module _ (r : Bool) (g : r ≡ areRising (record { «next_hop» = n; metric = m; «local_pref» = l; weight = w; path = p })) where
+              pub rise : r ≡ true → Found (record { «next_hop» = n; metric = m; «local_pref» = l; weight = w; path = p }) ≡ columnHeader s
+              rise t = sym (all-five ∙ rw (← g, t))
 
-            pub no-rise : (ltb n m && ltb m l && ltb l w && ltb w p) ≡ false → NoColumns ≡ columnHeader s
-            no-rise t = sym (all-five ∙ rw t)
+              pub no-rise : r ≡ false → NoColumns ≡ columnHeader s
+              no-rise t = sym (all-five ∙ rw (← g, t))
 
 -- the shift
 pub no-shift : (c : Columns) → c .«next_hop» ≡ 0 → NoColumns ≡ shiftLeft c
@@ -154,3 +154,26 @@ module _ (c : Columns) (n m l w p : ℕ) where
       → Found (record { «next_hop» = n; metric = m; «local_pref» = l; weight = w; path = p }) ≡ shiftLeft c
   unfolding shiftLeft
   shifted h e₁ e₂ e₃ e₄ e₅ = rw (e₁, e₂, e₃, e₄, e₅) (simp (ne-eqb (c .«next_hop») 0 h))
+
+-- columns that were found rise
+found-rise : (x c : Columns) → rising x ≡ Found c → areRising c ≡ true
+found-rise x c = go (areRising x) refl
+  where
+    go : (b : Bool) → areRising x ≡ b → cond b (Found x) NoColumns ≡ Found c → areRising c ≡ true
+    go true h e = let z : x ≡ c = cc in ap areRising (sym z) ∙ h
+    go false h e = let z : _≡_ {A = ℕ} 0 1 = cc in absurd (omega arith)
+
+none-found : (A : Type 0) (c : Columns) → NoColumns ≡ Found c → A
+none-found A c e = let z : _≡_ {A = ℕ} 0 1 = cc in absurd (omega arith)
+
+five-rise : (n m l w p : Place) (c : Columns) → five n m l w p ≡ Found c → areRising c ≡ true
+five-rise (AtPlace n) (AtPlace m) (AtPlace l) (AtPlace w) (AtPlace p) c e = found-rise (record { «next_hop» = n; metric = m; «local_pref» = l; weight = w; path = p }) c e
+five-rise (AtPlace n) (AtPlace m) (AtPlace l) (AtPlace w) NoPlace c e = none-found (areRising c ≡ true) c e
+five-rise (AtPlace n) (AtPlace m) (AtPlace l) NoPlace p c e = none-found (areRising c ≡ true) c e
+five-rise (AtPlace n) (AtPlace m) NoPlace w p c e = none-found (areRising c ≡ true) c e
+five-rise (AtPlace n) NoPlace l w p c e = none-found (areRising c ≡ true) c e
+five-rise NoPlace m l w p c e = none-found (areRising c ≡ true) c e
+
+pub header-rises : (s : List ℕ) (c : Columns) → columnHeader s ≡ Found c → areRising c ≡ true
+unfolding columnHeader
+header-rises s c e = five-rise (place (ascii "Next Hop") s) (place (ascii "Metric") s) (place (ascii "LocPrf") s) (place (ascii "Weight") s) (place (ascii "Path") s) c e

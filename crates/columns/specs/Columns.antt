@@ -44,12 +44,13 @@ placeFrom (suc n) name s i = placeAt name s (placeFrom n name s) (nextWord s i)
 unfoldable pub place : List ℕ → List ℕ → Place
 place name s = placeFrom (suc (length s)) name s 0
 
+-- strictly rising (01, Records)
+abbrev pub areRising : Columns → Bool
+areRising c = ltb (c .«next_hop») (c .metric) && ltb (c .metric) (c .«local_pref») && ltb (c .«local_pref») (c .weight) && ltb (c .weight) (c .path)
+
 -- all five must be there and rise
 abbrev pub rising : Columns → ColumnsRead
-rising c =
-    cond (ltb (c .«next_hop») (c .metric) && ltb (c .metric) (c .«local_pref») && ltb (c .«local_pref») (c .weight) && ltb (c .weight) (c .path))
-    (Found c)
-    NoColumns
+rising c = cond (areRising c) (Found c) NoColumns
 
 abbrev pub five : Place → Place → Place → Place → Place → ColumnsRead
 five (AtPlace n) (AtPlace m) (AtPlace l) (AtPlace w) (AtPlace p) = rising (record { «next_hop» = n; metric = m; «local_pref» = l; weight = w; path = p })

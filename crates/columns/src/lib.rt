@@ -1,7 +1,7 @@
 // The columns of a table, found by their names in its column header.
 ghost use mathlib.Core.Path.{_≡_};
 ghost use Prim.Native.Nat.{_-_};
-ghost use Rattle.columns.specs.Columns.{wordsBegin, place, columnHeader, shiftLeft};
+ghost use Rattle.columns.specs.Columns.{wordsBegin, place, areRising, columnHeader, shiftLeft};
 use scan::Word;
 
 // Offsets in bytes; those of a column header rise.
@@ -62,6 +62,15 @@ fn last_place(line: &[u8], name: &[u8]) -> Place
     }
 }
 
+pub fn are_rising(c: Columns) -> bool
+    ensures { λ r. ⌜ r ≡ areRising c ⌝ }
+{
+    (c.next_hop < c.metric)
+        & (c.metric < c.local_pref)
+        & (c.local_pref < c.weight)
+        & (c.weight < c.path)
+}
+
 pub fn parse_column_header(line: &[u8]) -> ColumnsRead
     ensures { λ r. ⌜ r ≡ columnHeader (now (line .entry)) ⌝ }
 {
@@ -80,14 +89,15 @@ pub fn parse_column_header(line: &[u8]) -> ColumnsRead
     let Place::At(path) = last_place(line, b"Path") else {
         return ColumnsRead::Nothing;
     };
-    if (next_hop < metric) & (metric < local_pref) & (local_pref < weight) & (weight < path) {
-        ColumnsRead::Found(Columns {
-            next_hop,
-            metric,
-            local_pref,
-            weight,
-            path,
-        })
+    let c = Columns {
+        next_hop,
+        metric,
+        local_pref,
+        weight,
+        path,
+    };
+    if are_rising(c) {
+        ColumnsRead::Found(c)
     } else {
         ColumnsRead::Nothing
     }

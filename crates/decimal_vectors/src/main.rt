@@ -1,23 +1,21 @@
 // Runs the cases of `decimal` (data/cases.txt) and prints a line for each group.
-ghost use mathlib.Core.Path.{_≡_};
-ghost use lib.ListN.{length};
 use cases::Tally;
-use decimal::Put;
 use decimal::U32Read;
 use decimal::U64Read;
+use output::Put;
 
 fn put_u32(out: &mut [u8], r: U32Read) -> usize {
     let U32Read::Number(n) = r else {
         return cases::put(out, 0, b"none");
     };
-    decimal::write_u32(n, out, 0)
+    decimal_display::write_u32(n, out, 0)
 }
 
 fn put_u64(out: &mut [u8], r: U64Read) -> usize {
     let U64Read::Number(n) = r else {
         return cases::put(out, 0, b"none");
     };
-    decimal::write_u64(n, out, 0)
+    decimal_display::write_u64(n, out, 0)
 }
 
 // What is read from s.
@@ -37,19 +35,19 @@ fn read_answer(name: &[u8], s: &[u8], out: &mut [u8]) -> usize {
 // What is printed of a, or of a - b.
 fn print_answer(name: &[u8], a: u64, b: u64, out: &mut [u8]) -> usize {
     if scan::same(name, b"print") {
-        return decimal::write_u64(a, out, 0);
+        return decimal_display::write_u64(a, out, 0);
     }
     if scan::same(name, b"print32") {
-        return decimal::write_u32((a % 4294967296) as u32, out, 0);
+        return decimal_display::write_u32((a % 4294967296) as u32, out, 0);
     }
     if scan::same(name, b"len") {
-        return cases::put_decimal(out, 0, decimal::decimal_len(a) as u64);
+        return cases::put_decimal(out, 0, decimal_display::decimal_len(a) as u64);
     }
     if scan::same(name, b"difference") {
-        return decimal::write_difference(a, b, out, 0);
+        return decimal_display::write_difference(a, b, out, 0);
     }
     if scan::same(name, b"difference_len") {
-        return cases::put_decimal(out, 0, decimal::difference_len(a, b) as u64);
+        return cases::put_decimal(out, 0, decimal_display::difference_len(a, b) as u64);
     }
     0
 }
@@ -79,19 +77,19 @@ fn write_answer(
     out: &mut [u8],
 ) -> usize {
     if scan::same(name, b"put") {
-        let r = decimal::put_u64(n, list);
+        let r = decimal_display::put_u64(n, list);
         return put_answer(out, r, list);
     }
     if scan::same(name, b"write") {
-        let r = decimal::write_u64(n, list, at);
+        let r = decimal_display::write_u64(n, list, at);
         return put_written(out, r, list);
     }
     if scan::same(name, b"write_bytes") {
-        let r = decimal::write_bytes(s, list, at);
+        let r = output::write_bytes(s, list, at);
         return put_written(out, r, list);
     }
     if scan::same(name, b"write_byte") {
-        let r = decimal::write_byte((n % 256) as u8, list, at);
+        let r = output::write_byte((n % 256) as u8, list, at);
         return put_written(out, r, list);
     }
     0
@@ -152,15 +150,8 @@ fn run(list: &[u8]) {
     cases::report(t, list);
 }
 
-// Room for the list of cases.
-fn list_buffer() -> [u8; 2097152]
-    ensures { λ r. ⌜ 2097152 ≡ length r ⌝ }
-{
-    [0; 2097152]
-}
-
 fn main() {
-    let mut list = list_buffer();
+    let mut list = cases::list_buffer();
     let n = io::read_full(os::open_read(b"cases.txt"), &mut list);
     run(&list[..n]);
 }

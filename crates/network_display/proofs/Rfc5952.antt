@@ -10,9 +10,9 @@ use lib.Dec.{leb, ltb}
 use borrow.Author.Tests.{lt-leb, le-leb, leb-false, ltb-true, ltb-false}
 use Rattle.ipv6.specs.Ipv6.{gap}
 use Rattle.ipv6.proofs.Sides.{Below}
-use Rattle.network_display.specs.Groups.{zeros, longest, firstRun}
-use Rattle.network_display.specs.Text.{hexByte, hexes, hex, joined, shortened, plain}
-use Rattle.network_display.proofs.Writing.{hex-1, hex-2, hex-3, hex-4}
+use Rattle.ip_display.specs.Groups.{zeros, longest, firstRun}
+use Rattle.ip_display.specs.Text.{hexByte, hexes, hex, joined, shortened, plain}
+use Rattle.ip_display.proofs.Writing.{hex-1, hex-2, hex-3, hex-4}
 use Rattle.network_display.proofs.RoundTrip.{around-run, run-zeros-at, gap-joined}
 
 -- 4.2.1: no run of zero groups is longer than the longest

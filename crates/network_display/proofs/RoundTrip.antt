@@ -11,9 +11,9 @@ use lib.Seq.{drop-drop, take-at, drop-at}
 use lib.Dec.{eqb, leb, ltb}
 use borrow.Author.Tests.{le-ltb, lt-ltb, lt-leb, le-leb, eq-eqb, ne-eqb, ltb-false, ltb-true, leb-true, leb-false, eqb-true}
 use Rattle.decimal.specs.Decimal.{isDigit, behind, digits}
-use Rattle.decimal.specs.Printed.{decimal}
-use Rattle.decimal.proofs.Printed.{decimal-short, digits-most}
-use Rattle.decimal.proofs.ReadBack.{digits-decimal, no-leading-zero}
+use Rattle.decimal_display.specs.Printed.{decimal}
+use Rattle.decimal_display.proofs.Printed.{decimal-short, digits-most}
+use Rattle.decimal_display.proofs.ReadBack.{digits-decimal, no-leading-zero}
 use Rattle.scan.specs.Lists.{splitBy, onto}
 use Rattle.ipv4.specs.Parts.{parts, before, prepend, each, number}
 use Rattle.ipv4.specs.Ipv4.{leadingZero, octet, four, ipv4}
@@ -27,9 +27,10 @@ use Rattle.network.specs.declared.IpAddr.the-variants.{V4, V6}
 use Rattle.network.specs.declared.AddressRead.the-variants.{Address}
 use Rattle.network.specs.declared.NetworkPrefix.{NetworkPrefix}
 use Rattle.network.specs.declared.PrefixRead.the-variants.{Prefix}
-use Rattle.network_display.specs.Groups.{quarters, groupsOf, zeros, longest, firstRun}
-use Rattle.network_display.specs.Text.{dotted, hexByte, hex, behindColons, joined, shortened, plain, mapped, ipv6Text, addressText, prefixText}
-use Rattle.network_display.proofs.Writing.{hex-1, hex-2, hex-3, hex-4, first-within}
+use Rattle.ip_display.specs.Groups.{quarters, groupsOf, zeros, longest, firstRun}
+use Rattle.ip_display.specs.Text.{dotted, hexByte, hex, behindColons, joined, shortened, plain, mapped, ipv6Text}
+use Rattle.network_display.specs.Text.{addressText, prefixText}
+use Rattle.ip_display.proofs.Writing.{hex-1, hex-2, hex-3, hex-4, first-within}
 
 -- no byte of the text is c
 abbrev pub Free : ℕ → List ℕ → Type 0

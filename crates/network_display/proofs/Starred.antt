@@ -3,7 +3,7 @@ use mathlib.Core.Path.{_≡_, refl}
 use mathlib.Core.List.{[], _∷_}
 use mathlib.Core.Option.{some, none}
 use Rattle.decimal.specs.Decimal.{behind, digits}
-use Rattle.decimal.specs.Printed.{decimals, decimal}
+use Rattle.decimal_display.specs.Printed.{decimals, decimal}
 use Rattle.scan.specs.Lists.{splitBy, onto}
 use Rattle.ipv4.specs.Parts.{before, each, number}
 use Rattle.ipv4.specs.Ipv4.{octet, ipv4}
@@ -11,8 +11,9 @@ use Rattle.ipv6.specs.Ipv6.{hexDigit, group, groups, side, gap, ipv6}
 use Rattle.network.specs.Address.{address}
 use Rattle.network.specs.Prefix.{lastPlace, lengthOf, prefix}
 use Rattle.network.specs.declared.IpAddr.the-variants.{V4, V6}
-use Rattle.network_display.specs.Groups.{zeros, longest, firstRun}
-use Rattle.network_display.specs.Text.{dotted, hexes, hex, behindColons, joined, shortened, plain, mapped, ipv6Text, addressText, prefixText}
+use Rattle.ip_display.specs.Groups.{zeros, longest, firstRun}
+use Rattle.ip_display.specs.Text.{dotted, hexes, hex, behindColons, joined, shortened, plain, mapped, ipv6Text}
+use Rattle.network_display.specs.Text.{addressText, prefixText}
 
 -- `192.0.02.1` is no address; `1:2:3:4:5:6:7::` is one that prints `1:2:3:4:5:6:7:0`; `0:0:1::` prints itself;
 -- `10.1.2.3/8` keeps its host bits; `10.0.0.0` is no prefix

@@ -1,9 +1,9 @@
 // Runs the cases of `network` and `network_display` (data/cases.txt) and prints a line for each group.
 use cases::Tally;
-use decimal::Put;
 use network::AddressRead;
 use network::NetworkPrefix;
 use network::PrefixRead;
+use output::Put;
 
 // The address that s says, printed.
 fn address_answer(s: &[u8], out: &mut [u8]) -> usize {

@@ -13,7 +13,7 @@ use Rattle.plain_reader.specs.Plain.{take-line, take-lines}
 use Rattle.plain_reader.specs.Cursor.{Cursor, view, locate, located, next-at}
 
 -- a position in the text is where the lines from it on are left
-locate-at : {P : Type 0} (t : List ℕ) (i : ℕ) (m : Remembered P) → i ≤ length t → locate t (record { left = lines (drop i t); remembered = m }) ≡ record { at = i; remembered = m }
+pub locate-at : {P : Type 0} (t : List ℕ) (i : ℕ) (m : Remembered P) → i ≤ length t → locate t (record { left = lines (drop i t); remembered = m }) ≡ record { at = i; remembered = m }
 locate-at t i m h = ap (λ (n : ℕ). record { at = n; remembered = m }) (simp (flatten-lines, length-drop) (omega arith))
 
 module _ (L : Rules) (t : List ℕ) (c : Cursor (L .Prefix)) (k : L .Places) where

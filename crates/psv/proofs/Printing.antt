@@ -9,10 +9,10 @@ use lib.ListN.{length, getD, take, drop, length-append}
 use lib.Dec.{leb}
 use borrow.Author.Tests.{le-leb, lt-leb, leb-true, leb-false}
 use Rattle.scan.specs.Ascii.{ascii}
-use Rattle.decimal.specs.Printed.{decimal}
-use Rattle.decimal.specs.Output.{Written, front, answer}
-use Rattle.decimal.proofs.Output.{then, nothing, kept, wrote, whole, too-short, room-all}
-use Rattle.decimal.specs.declared.Put.the-variants as put
+use Rattle.decimal_display.specs.Printed.{decimal}
+use Rattle.output.specs.Output.{Written, front, answer}
+use Rattle.output.proofs.Output.{then, nothing, kept, wrote, whole, too-short, room-all}
+use Rattle.output.specs.declared.Put.the-variants as put
 use Rattle.decimal.specs.declared.U32Read.{U32Read}
 use Rattle.decimal.specs.declared.U32Read.the-variants as read
 use Rattle.network.specs.declared.Asn.{Asn}
@@ -33,7 +33,7 @@ use Rattle.elem.specs.declared.OptOrigin.{OptOrigin}
 use Rattle.elem.specs.declared.OptOrigin.the-variants as origin
 use Rattle.elem.proofs.Spoilt.{count-within}
 use Rattle.psv.specs.declared.ElementPut.the-variants.{Wrote, Spoilt, TooShort}
-use Rattle.psv.specs.Line.{headerText, bar, typeText, timeText, sequenceText, asnText, originText, numberText, psvText, displayText, startText, peerText, headText, hopText, attributesText, tailText, lineText, Printed}
+use Rattle.psv.specs.Line.{headerText, bar, typeText, timeText, sequenceText, asnText, originText, numberText, psvText, displayText, startText, peerText, headText, hopText, preferenceText, attributesText, tailText, lineText, Printed}
 
 -- the type
 type-length : (b : Bool) → length (typeText b) ≡ 1
@@ -147,7 +147,7 @@ module _ (e : Element) where
 
   pub attributes-length : (a b c d : ℕ) → Measured (originText (e .origin)) 10 a → b ≡ length (addressText (e .«next_hop»)) → b ≤ 45
       → Measured (numberText (e .«local_pref»)) 20 c → Measured (numberText (e .metric)) 20 d → Measured (attributesText e) 108 (13 + a + b + c + d)
-  unfolding attributesText hopText
+  unfolding attributesText preferenceText hopText
   attributes-length a b c d w h i v x =
       record { is = simp length-append (omega (arith, w .is, v .is, x .is)); small = omega (arith, w .small, v .small, x .small) }
 
@@ -182,11 +182,15 @@ module _ (e : Element) (out : List ℕ) (at : ℕ) where
   unfolding hopText
   hop-written o₁ o₂ o₃ o a b c r w₁ w₂ w₃ w₄ = then (then (then w₁ w₂) w₃) w₄
 
-  pub attributes-written : (o₁ o₂ o₃ o₄ o₅ o : List ℕ) (a b c d f r : ℕ) → Written (hopText e) out at o₁ a → Written bar o₁ a o₂ b
-      → Written (numberText (e .«local_pref»)) o₂ b o₃ c → Written bar o₃ c o₄ d → Written (numberText (e .metric)) o₄ d o₅ f
-      → Written (ascii "||false||") o₅ f o r → Written (attributesText e) out at o r
+  pub preference-written : (o₁ o₂ o : List ℕ) (a b r : ℕ) → Written (hopText e) out at o₁ a → Written bar o₁ a o₂ b → Written (numberText (e .«local_pref»)) o₂ b o r
+      → Written (preferenceText e) out at o r
+  unfolding preferenceText
+  preference-written o₁ o₂ o a b r w₁ w₂ w₃ = then (then w₁ w₂) w₃
+
+  pub attributes-written : (o₁ o₂ o₃ o : List ℕ) (a b c r : ℕ) → Written (preferenceText e) out at o₁ a → Written bar o₁ a o₂ b
+      → Written (numberText (e .metric)) o₂ b o₃ c → Written (ascii "||false||") o₃ c o r → Written (attributesText e) out at o r
   unfolding attributesText
-  attributes-written o₁ o₂ o₃ o₄ o₅ o a b c d f r w₁ w₂ w₃ w₄ w₅ w₆ = then (then (then (then (then w₁ w₂) w₃) w₄) w₅) w₆
+  attributes-written o₁ o₂ o₃ o a b c r w₁ w₂ w₃ w₄ = then (then (then w₁ w₂) w₃) w₄
 
   pub psv-tail-written : (psv : Bool) (o₁ o₂ o₃ o : List ℕ) (a b c r : ℕ) → psv ≡ true → Written bar out at o₁ a → Written (asnText (e .«origin_asn»)) o₁ a o₂ b
       → Written (attributesText e) o₂ b o₃ c → Written bar o₃ c o r → Written (tailText psv e) out at o r
@@ -301,12 +305,12 @@ unfolding separated
 join14 a b c d f p g h i j = simp (append-assoc, append-nil)
 
 pub psv-line : (e : Element) (asns : List ℕ) → lineText true e asns ≡ psvText e asns
-unfolding lineText headText peerText startText tailText attributesText hopText psvText
+unfolding lineText headText peerText startText tailText attributesText preferenceText hopText psvText
 psv-line e asns =
     join16 (typeText (e .announce)) (timeText (secondOf (e .timestamp))) (addressText (e .«peer_ip»)) (decimal (e .«peer_asn» .0)) (prefixText (e .prefix)) (sequenceText (numbers e asns)) (asnText (e .«origin_asn»)) (originText (e .origin)) (addressText (e .«next_hop»)) (numberText (e .«local_pref»)) (numberText (e .metric))
 
 pub display-line : (e : Element) (asns : List ℕ) → lineText false e asns ≡ displayText e asns
-unfolding lineText headText peerText startText tailText attributesText hopText displayText
+unfolding lineText headText peerText startText tailText attributesText preferenceText hopText displayText
 display-line e asns =
     join14 (typeText (e .announce)) (timeText (secondOf (e .timestamp))) (addressText (e .«peer_ip»)) (decimal (e .«peer_asn» .0)) (prefixText (e .prefix)) (sequenceText (numbers e asns)) (originText (e .origin)) (addressText (e .«next_hop»)) (numberText (e .«local_pref»)) (numberText (e .metric))
 

@@ -7,8 +7,8 @@ use mathlib.Core.List.{List, [], _∷_, _++_}
 use lib.ListN.{length}
 use lib.Dec.{leb}
 use Rattle.scan.specs.Ascii.{ascii}
-use Rattle.decimal.specs.Printed.{decimal}
-use Rattle.decimal.specs.Output.{front}
+use Rattle.decimal_display.specs.Printed.{decimal}
+use Rattle.output.specs.Output.{front}
 use Rattle.decimal.specs.declared.U32Read.{U32Read}
 use Rattle.decimal.specs.declared.U32Read.the-variants as read
 use Rattle.network.specs.declared.Asn.{Asn}
@@ -91,8 +91,11 @@ headText e = peerText e ++ bar ++ prefixText (e .prefix) ++ bar
 unfoldable pub hopText : Element → List ℕ
 hopText e = bar ++ originText (e .origin) ++ bar ++ addressText (e .«next_hop»)
 
+unfoldable pub preferenceText : Element → List ℕ
+preferenceText e = hopText e ++ bar ++ numberText (e .«local_pref»)
+
 unfoldable pub attributesText : Element → List ℕ
-attributesText e = hopText e ++ bar ++ numberText (e .«local_pref») ++ bar ++ numberText (e .metric) ++ ascii "||false||"
+attributesText e = preferenceText e ++ bar ++ numberText (e .metric) ++ ascii "||false||"
 
 unfoldable pub tailText : Bool → Element → List ℕ
 tailText psv e = cond psv (bar ++ asnText (e .«origin_asn») ++ attributesText e ++ bar) (attributesText e)

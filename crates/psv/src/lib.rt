@@ -5,19 +5,18 @@ ghost use mathlib.Core.List.{[], _∷_, _++_};
 ghost use Prim.Native.Nat.{_≤_};
 ghost use lib.ListN.{length};
 ghost use lib.Dec.{leb};
-ghost use Rattle.decimal.specs.Printed.{decimal};
-ghost use Rattle.decimal.specs.Output.{Written, front, answer};
+ghost use Rattle.output.specs.Output.{Written, front, answer};
 ghost use Rattle.seconds.specs.Seconds.{secondOf};
-ghost use Rattle.aspath_display.specs.Display.{lead, Measured};
+ghost use Rattle.aspath_display.specs.Display.{Measured};
 ghost use Rattle.elem.specs.Element.{spoilt};
-ghost use Rattle.psv.specs.Line.{headerText, typeText, timeText, sequenceText, asnText, originText, numberText, psvText, displayText, startText, peerText, headText, hopText, attributesText, tailText, lineText, Printed};
-use decimal::Put;
+ghost use Rattle.psv.specs.Line.{headerText, typeText, timeText, sequenceText, asnText, originText, numberText, psvText, displayText, startText, peerText, headText, hopText, preferenceText, attributesText, tailText, lineText, Printed};
 use decimal::U32Read;
 use elem::Element;
 use elem::OptAsn;
 use elem::OptOrigin;
 use elem::Origin;
 use network::Asn;
+use output::Put;
 use seconds::SecondRead;
 
 pub enum ElementPut {
@@ -32,9 +31,9 @@ fn write_type(announce: bool, out: &mut [u8], at: usize) -> usize
     ensures { λ r. ⌜ Written (typeText announce) (now (out .entry)) at (now (out .exit)) r ⌝ }
 {
     if announce {
-        decimal::write_byte(b'A', out, at)
+        output::write_byte(b'A', out, at)
     } else {
-        decimal::write_byte(b'W', out, at)
+        output::write_byte(b'W', out, at)
     }
 }
 
@@ -65,7 +64,7 @@ fn head_len(e: Element) -> usize
     let prefix = e.prefix;
     let time = time_len(timestamp);
     let peer = network_display::address_len(peer_ip);
-    let asn = decimal::decimal_len(peer_asn.0 as u64);
+    let asn = decimal_display::decimal_len(peer_asn.0 as u64);
     6 + time + peer + asn + network_display::prefix_text_len(prefix)
 }
 
@@ -75,9 +74,9 @@ fn write_start(e: Element, out: &mut [u8], at: usize) -> usize
     let announce = e.announce;
     let timestamp = e.timestamp;
     let a = write_type(announce, out, at);
-    let b = decimal::write_byte(b'|', out, a);
+    let b = output::write_byte(b'|', out, a);
     let c = write_time(timestamp, out, b);
-    decimal::write_byte(b'|', out, c)
+    output::write_byte(b'|', out, c)
 }
 
 fn write_peer(e: Element, out: &mut [u8], at: usize) -> usize
@@ -87,8 +86,8 @@ fn write_peer(e: Element, out: &mut [u8], at: usize) -> usize
     let peer_asn = e.peer_asn;
     let a = write_start(e, out, at);
     let b = network_display::write_address(peer_ip, out, a);
-    let c = decimal::write_byte(b'|', out, b);
-    decimal::write_u32(peer_asn.0, out, c)
+    let c = output::write_byte(b'|', out, b);
+    decimal_display::write_u32(peer_asn.0, out, c)
 }
 
 fn write_head(e: Element, out: &mut [u8], at: usize) -> usize
@@ -96,36 +95,12 @@ fn write_head(e: Element, out: &mut [u8], at: usize) -> usize
 {
     let prefix = e.prefix;
     let a = write_peer(e, out, at);
-    let b = decimal::write_byte(b'|', out, a);
+    let b = output::write_byte(b'|', out, a);
     let c = network_display::write_prefix(prefix, out, b);
-    decimal::write_byte(b'|', out, c)
+    output::write_byte(b'|', out, c)
 }
 
-// The path. A number stands behind a space, of which the first has none.
-
-fn number_len(first: bool, a: u32) -> usize
-    ensures { λ r. ⌜ Measured (lead first 32 ++ decimal a) 21 r ⌝ }
-{
-    let n = decimal::decimal_len(a as u64);
-    if first { n } else { 1 + n }
-}
-
-fn write_lead(first: bool, out: &mut [u8], at: usize) -> usize
-    ensures { λ r. ⌜ Written (lead first 32) (now (out .entry)) at (now (out .exit)) r ⌝ }
-{
-    if first {
-        at
-    } else {
-        decimal::write_byte(b' ', out, at)
-    }
-}
-
-fn write_number(first: bool, a: u32, out: &mut [u8], at: usize) -> usize
-    ensures { λ r. ⌜ Written (lead first 32 ++ decimal a) (now (out .entry)) at (now (out .exit)) r ⌝ }
-{
-    let behind = write_lead(first, out, at);
-    decimal::write_u32(a, out, behind)
-}
+// The path, one sequence.
 
 // Whether the numbers have room; they may be too many to add their lengths up.
 fn has_room(numbers: &[u32], room: usize) -> bool
@@ -135,7 +110,7 @@ fn has_room(numbers: &[u32], room: usize) -> bool
     let mut first = true;
     let mut i = 0;
     while i < numbers.len() {
-        let n = number_len(first, numbers[i]);
+        let n = aspath_display::number_len(first, b' ', numbers[i]);
         if left < n {
             return false;
         }
@@ -146,27 +121,13 @@ fn has_room(numbers: &[u32], room: usize) -> bool
     true
 }
 
-fn write_numbers(numbers: &[u32], out: &mut [u8], at: usize) -> usize
-    ensures { λ r. ⌜ Written (sequenceText (now (numbers .entry))) (now (out .entry)) at (now (out .exit)) r ⌝ }
-{
-    let mut place = at;
-    let mut first = true;
-    let mut i = 0;
-    while i < numbers.len() {
-        place = write_number(first, numbers[i], out, place);
-        first = false;
-        i += 1;
-    }
-    place
-}
-
 // The fields behind the path.
 
 fn asn_len(a: OptAsn) -> usize
     ensures { λ r. ⌜ Measured (asnText a) 20 r ⌝ }
 {
     match a {
-        OptAsn::Known(asn) => decimal::decimal_len(asn.0 as u64),
+        OptAsn::Known(asn) => decimal_display::decimal_len(asn.0 as u64),
         OptAsn::Nothing => 0,
     }
 }
@@ -175,7 +136,7 @@ fn write_asn(a: OptAsn, out: &mut [u8], at: usize) -> usize
     ensures { λ r. ⌜ Written (asnText a) (now (out .entry)) at (now (out .exit)) r ⌝ }
 {
     match a {
-        OptAsn::Known(asn) => decimal::write_u32(asn.0, out, at),
+        OptAsn::Known(asn) => decimal_display::write_u32(asn.0, out, at),
         OptAsn::Nothing => at,
     }
 }
@@ -184,7 +145,7 @@ fn u32_len(n: U32Read) -> usize
     ensures { λ r. ⌜ Measured (numberText n) 20 r ⌝ }
 {
     match n {
-        U32Read::Number(v) => decimal::decimal_len(v as u64),
+        U32Read::Number(v) => decimal_display::decimal_len(v as u64),
         U32Read::Nothing => 0,
     }
 }
@@ -193,7 +154,7 @@ fn write_u32(n: U32Read, out: &mut [u8], at: usize) -> usize
     ensures { λ r. ⌜ Written (numberText n) (now (out .entry)) at (now (out .exit)) r ⌝ }
 {
     match n {
-        U32Read::Number(v) => decimal::write_u32(v, out, at),
+        U32Read::Number(v) => decimal_display::write_u32(v, out, at),
         U32Read::Nothing => at,
     }
 }
@@ -218,9 +179,9 @@ fn write_origin(o: OptOrigin, out: &mut [u8], at: usize) -> usize
         return at;
     };
     match origin {
-        Origin::IGP => decimal::write_bytes(b"IGP", out, at),
-        Origin::EGP => decimal::write_bytes(b"EGP", out, at),
-        Origin::INCOMPLETE => decimal::write_bytes(b"INCOMPLETE", out, at),
+        Origin::IGP => output::write_bytes(b"IGP", out, at),
+        Origin::EGP => output::write_bytes(b"EGP", out, at),
+        Origin::INCOMPLETE => output::write_bytes(b"INCOMPLETE", out, at),
     }
 }
 
@@ -242,23 +203,29 @@ fn write_hop(e: Element, out: &mut [u8], at: usize) -> usize
 {
     let origin = e.origin;
     let next_hop = e.next_hop;
-    let a = decimal::write_byte(b'|', out, at);
+    let a = output::write_byte(b'|', out, at);
     let b = write_origin(origin, out, a);
-    let c = decimal::write_byte(b'|', out, b);
+    let c = output::write_byte(b'|', out, b);
     network_display::write_address(next_hop, out, c)
+}
+
+fn write_preference(e: Element, out: &mut [u8], at: usize) -> usize
+    ensures { λ r. ⌜ Written (preferenceText e) (now (out .entry)) at (now (out .exit)) r ⌝ }
+{
+    let preference = e.local_pref;
+    let a = write_hop(e, out, at);
+    let b = output::write_byte(b'|', out, a);
+    write_u32(preference, out, b)
 }
 
 fn write_attributes(e: Element, out: &mut [u8], at: usize) -> usize
     ensures { λ r. ⌜ Written (attributesText e) (now (out .entry)) at (now (out .exit)) r ⌝ }
 {
-    let local_pref = e.local_pref;
-    let metric = e.metric;
-    let a = write_hop(e, out, at);
-    let b = decimal::write_byte(b'|', out, a);
-    let c = write_u32(local_pref, out, b);
-    let d = decimal::write_byte(b'|', out, c);
-    let f = write_u32(metric, out, d);
-    decimal::write_bytes(b"||false||", out, f)
+    let med = e.metric;
+    let a = write_preference(e, out, at);
+    let b = output::write_byte(b'|', out, a);
+    let c = write_u32(med, out, b);
+    output::write_bytes(b"||false||", out, c)
 }
 
 fn tail_len(psv: bool, e: Element) -> usize
@@ -274,10 +241,10 @@ fn write_tail(psv: bool, e: Element, out: &mut [u8], at: usize) -> usize
 {
     let origin_asn = e.origin_asn;
     if psv {
-        let a = decimal::write_byte(b'|', out, at);
+        let a = output::write_byte(b'|', out, at);
         let b = write_asn(origin_asn, out, a);
         let c = write_attributes(e, out, b);
-        return decimal::write_byte(b'|', out, c);
+        return output::write_byte(b'|', out, c);
     }
     write_attributes(e, out, at)
 }
@@ -296,7 +263,7 @@ fn put_line(psv: bool, e: Element, asns: &[u32], out: &mut [u8]) -> ElementPut
     }
     if has_room(numbers, out.len() - around) {
         let a = write_head(e, out, 0);
-        let b = write_numbers(numbers, out, a);
+        let b = aspath_display::write_numbers(numbers, b' ', out, a);
         return ElementPut::Wrote(write_tail(psv, e, out, b));
     }
     ElementPut::TooShort
@@ -321,7 +288,7 @@ pub fn get_psv_header(out: &mut [u8]) -> Put
     if out.len() < 142 {
         return Put::TooShort;
     }
-    Put::Wrote(decimal::write_bytes(
+    Put::Wrote(output::write_bytes(
         b"type|timestamp|peer_ip|peer_asn|prefix|as_path|origin_asns|origin|next_hop|local_pref|med|communities|atomic|aggr_asn|aggr_ip|only_to_customer",
         out,
         0,

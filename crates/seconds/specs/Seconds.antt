@@ -7,7 +7,7 @@ use mathlib.Core.List.{List}
 use lib.Dec.{leb, ltb}
 use lib.IntN.{pos}
 use lib.Ieee.{Float, fin, binary64, lt, neg, inUnsigned, toUnsigned, ofInt, ofBits}
-use Rattle.decimal.specs.Printed.{difference}
+use Rattle.decimal_display.specs.Printed.{difference}
 use Rattle.seconds.specs.declared.Magnitude.{Magnitude}
 use Rattle.seconds.specs.declared.Magnitude.the-variants as magnitude
 use Rattle.seconds.specs.declared.SecondRead.{SecondRead}

@@ -3,9 +3,9 @@
 ghost use mathlib.Core.Path.{_≡_};
 ghost use Prim.Native.Nat.{_≤_};
 ghost use lib.ListN.{length};
-ghost use Rattle.decimal.specs.Output.{Written, front, answer};
+ghost use Rattle.output.specs.Output.{Written, front, answer};
 ghost use Rattle.seconds.specs.Seconds.{wholeNumber, asMagnitude, secondOf, asSecond, timestampOf, isTimestamp, timestampOfBits, timestampText};
-use decimal::Put;
+use output::Put;
 
 enum Magnitude {
     Number(u64),
@@ -103,13 +103,13 @@ pub fn timestamp_of_bits(bits: u64) -> TimestampRead
 pub fn timestamp_len(second: u64) -> usize
     ensures { λ r. ⌜ (r ≡ length (timestampText second)) × (r ≤ 21) ⌝ }
 {
-    decimal::difference_len(second, 62167219200)
+    decimal_display::difference_len(second, 62167219200)
 }
 
 pub fn write_timestamp(second: u64, out: &mut [u8], at: usize) -> usize
     ensures { λ r. ⌜ Written (timestampText second) (now (out .entry)) at (now (out .exit)) r ⌝ }
 {
-    decimal::write_difference(second, 62167219200, out, at)
+    decimal_display::write_difference(second, 62167219200, out, at)
 }
 
 pub fn put_timestamp(second: u64, out: &mut [u8]) -> Put

@@ -5,10 +5,11 @@ use mathlib.Core.Bool.{true}
 use Prim.Native.Nat.{ℕ}
 use Rattle.scan.specs.Lists.{takeWhile, dropWhile, tokensBy}
 use Rattle.scan.proofs.ListLaws.{takeWhile-dropWhile}
-use Rattle.text.specs.Utf8.{all, isScalar, encode, encodeAll, decode, readable}
+use Rattle.utf8.specs.Utf8.{all, isScalar, encode, encodeAll, decode, readable}
 use Rattle.text.specs.White.{isWhite, isSpace, skip, trimStart, dropWhileEnd, trimEnd, trim, tokens}
-use Rattle.text.proofs.ListLaws.{all-parts, all-reverse, all-tokens, all-map, map-reverse, dropWhile-map, tokens-map}
-use Rattle.text.proofs.EncodeLaws.{scalar-encodes, encode-chars, encode-is-char, encode-readable, readable-decode}
+use Rattle.utf8.proofs.ListLaws.{all-parts, all-map}
+use Rattle.text.proofs.ListLaws.{all-reverse, all-tokens, map-reverse, dropWhile-map, tokens-map}
+use Rattle.utf8.proofs.EncodeLaws.{scalar-encodes, encode-chars, encode-is-char, encode-readable, readable-decode}
 use Rattle.text.proofs.TrimLaws.{trim-is}
 
 -- the encoding of a scalar value is white where the value is

@@ -1,10 +1,4 @@
-pub mod TestLaws
 pub mod ListLaws
-pub mod CharLaws
-pub mod CharsLaws
-pub mod ReadableLaws
-pub mod EncodeLaws
-pub mod EdgeLaws
 pub mod WhiteLaws
 pub mod TrimLaws
 pub mod TokenLaws

@@ -8,11 +8,11 @@ use lib.ListN.{length, take, drop, take-append-drop, length-append, length-drop,
 use lib.Seq.{take-all, take-at, length-take-le}
 use Rattle.scan.specs.Lists.{takeWhile, dropWhile, tokensBy}
 use Rattle.scan.proofs.ListLaws.{dropWhile-head, tokensBy-none, tokensBy-some}
-use Rattle.text.specs.Utf8.{pieceLen, charsFrom, chars}
+use Rattle.utf8.specs.Utf8.{pieceLen, charsFrom, chars}
 use Rattle.text.specs.White.{isSpace, trimStart, afterToken, tokenAt, nextToken, tokens}
 use Rattle.text.specs.declared.Token.the-variants.{At, Nothing}
-use Rattle.text.proofs.CharLaws.{piece-pos, piece-le}
-use Rattle.text.proofs.CharsLaws.{chars-more}
+use Rattle.utf8.proofs.CharLaws.{piece-pos, piece-le}
+use Rattle.utf8.proofs.CharsLaws.{chars-more}
 use Rattle.text.proofs.WhiteLaws.{skip-none, drop-back}
 use Rattle.text.proofs.TrimLaws.{skip-part, skip-length, chars-skip}
 

@@ -7,11 +7,12 @@ use native.Mathlib.Omega.{arith}
 use lib.ListN.{length, length-append}
 use Rattle.scan.specs.Lists.{takeWhile, dropWhile}
 use Rattle.scan.proofs.ListLaws.{takeWhile-dropWhile}
-use Rattle.text.specs.Utf8.{chars, readable}
+use Rattle.utf8.specs.Utf8.{chars, readable}
 use Rattle.text.specs.White.{isSpace, skip, trimStart, dropWhileEnd, trimEnd, trim}
-use Rattle.text.proofs.ListLaws.{flatten-append, drop-both}
-use Rattle.text.proofs.ReadableLaws.{readable-parts}
-use Rattle.text.proofs.CharsLaws.{chars-of-front, chars-of-rest, flatten-chars}
+use Rattle.utf8.proofs.ListLaws.{flatten-append}
+use Rattle.text.proofs.ListLaws.{drop-both}
+use Rattle.utf8.proofs.ReadableLaws.{readable-parts}
+use Rattle.utf8.proofs.CharsLaws.{chars-of-front, chars-of-rest, flatten-chars}
 
 -- what is passed over, and what is left
 module _ (p : List ℕ → Bool) (s : List ℕ) where

@@ -10,13 +10,13 @@ use lib.ListN.{length, getD, take, drop, length-append, length-take, length-drop
 use lib.Seq.{take-all, drop-cons, length-take-le, take-at, drop-at}
 use borrow.Author.Tests.{le-leb, lt-leb, lt-ltb, ne-eqb, ltb-true}
 use Rattle.scan.specs.Lists.{dropWhile}
-use Rattle.text.specs.Utf8.{within, charLen, pieceLen, charsFrom, chars, isChar, codePoint, encode}
+use Rattle.utf8.specs.Utf8.{within, charLen, pieceLen, charsFrom, chars, isChar, codePoint, encode}
 use Rattle.text.specs.White.{isWhite, isSpace, skip, trimStart, trimEnd, afterToken, whiteLen}
-use Rattle.text.proofs.TestLaws.{both, in-range, upto}
-use Rattle.text.proofs.CharLaws.{Begins, char-begins, char-le, char-one, wide-cases, piece-pos, piece-le}
-use Rattle.text.proofs.ListLaws.{flatten-append}
-use Rattle.text.proofs.CharsLaws.{First, chars-first, chars-front, chars-more, char-piece, chars-append, chars-of-front, chars-of-rest, flatten-chars}
-use Rattle.text.proofs.EncodeLaws.{Decodes, char-decodes}
+use Rattle.utf8.proofs.TestLaws.{both, in-range, upto}
+use Rattle.utf8.proofs.CharLaws.{Begins, char-begins, char-le, char-one, wide-cases, piece-pos, piece-le}
+use Rattle.utf8.proofs.ListLaws.{flatten-append}
+use Rattle.utf8.proofs.CharsLaws.{First, chars-first, chars-front, chars-more, char-piece, chars-append, chars-of-front, chars-of-rest, flatten-chars}
+use Rattle.utf8.proofs.EncodeLaws.{Decodes, char-decodes}
 
 -- of the code points above 0x3000 none is white
 high-white : (u : ℕ) → 0x3000 < u → isWhite u ≡ false

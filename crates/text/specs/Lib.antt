@@ -1,3 +1,1 @@
-pub mod Utf8
-pub mod Edge
 pub mod White

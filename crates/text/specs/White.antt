@@ -5,7 +5,7 @@ use mathlib.Core.Bool.{Bool, cond, not, _&&_, _||_}
 use lib.ListN.{length, drop}
 use lib.Dec.{eqb}
 use Rattle.scan.specs.Lists.{dropWhile, tokensBy}
-use Rattle.text.specs.Utf8.{within, chars, isChar, codePoint}
+use Rattle.utf8.specs.Utf8.{within, chars, isChar, codePoint}
 use Rattle.text.specs.declared.Token.{Token}
 use Rattle.text.specs.declared.Token.the-variants.{At, Nothing}
 

@@ -8,6 +8,9 @@ use native.Mathlib.Omega.{arith}
 use lib.ListN.{take}
 use Rattle.scan.specs.Lines.{lines, Cut}
 use Rattle.scan.proofs.LineLaws.{lines-append}
+use Rattle.text.specs.White.{trimEnd}
+use Rattle.columns.specs.Columns.{areRising}
+use Rattle.columns.proofs.Laws.{header-rises}
 use Rattle.columns.specs.declared.Columns.{Columns}
 use Rattle.columns.specs.declared.ColumnsRead.{ColumnsRead}
 use Rattle.columns.specs.declared.ColumnsRead.the-variants.{Found, Nothing as NoColumns}
@@ -47,3 +50,16 @@ header-append s t cut h at c e f =
     let k : lastColumns (through (take 64 (lines s))) ≡ Found c =
     sym (columns-of (unreadableLine 0 met) (preambleOf missing met) (lastColumns met) (0 + total met) h at e) ∙ f in
     ap (λ l. headerFrom 0 missing 0 l) (ap (λ l. through (take 64 l)) (lines-append s t cut) ∙ met-already 64 (lines s) (lines t) c k)
+
+-- the columns of a header rise
+last-rise : (ls : List (List ℕ)) (c : Columns) → lastColumns ls ≡ Found c → areRising c ≡ true
+unfolding lastColumns columnsOf
+last-rise [] c e = none-found (areRising c ≡ true) c e
+last-rise (l ∷ []) c e = header-rises (trimEnd l) c e
+last-rise (l ∷ m ∷ ls) c e = last-rise (m ∷ ls) c e
+
+pub header-columns-rise : (s : List ℕ) (h : TextDumpHeader) (at : ℕ) (c : Columns) → header s ≡ Header h at → h .columns ≡ Found c → areRising c ≡ true
+unfolding header headerFrom
+header-columns-rise s h at c e f =
+    let met : List (List ℕ) = through (take 64 (lines s)) in
+    last-rise met c (sym (columns-of (unreadableLine 0 met) (preambleOf missing met) (lastColumns met) (0 + total met) h at e) ∙ f)

@@ -10,7 +10,7 @@ use Rattle.scan.specs.Ascii.{ascii}
 use Rattle.scan.specs.Search.{findIn}
 use Rattle.scan.specs.declared.Found.{Found}
 use Rattle.scan.specs.declared.Found.the-variants.{At, Nothing}
-use Rattle.text.specs.Utf8.{readable}
+use Rattle.utf8.specs.Utf8.{readable}
 use Rattle.text_dump_header.specs.Detect.{contains, isGraphic, isTable, detect}
 
 -- a text shorter than 128 bytes is its own head

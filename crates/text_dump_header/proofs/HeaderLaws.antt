@@ -9,7 +9,7 @@ use lib.ListN.{length, take, drop, length-take, length-drop}
 use borrow.Author.Tests.{not-true, not-false}
 use Rattle.scan.specs.Lines.{lines, lineEnd}
 use Rattle.scan.proofs.LineLaws.{line-at, lineEnd-inside, lineEnd-after, no-lines}
-use Rattle.text.specs.Utf8.{readable}
+use Rattle.utf8.specs.Utf8.{readable}
 use Rattle.text.specs.White.{trimEnd}
 use Rattle.columns.specs.Columns.{columnHeader}
 use Rattle.columns.specs.declared.Columns.{Columns}

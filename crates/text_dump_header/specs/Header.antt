@@ -5,7 +5,7 @@ use mathlib.Core.List.{List, [], _∷_}
 use mathlib.Core.Option.{Option, some, none}
 use lib.ListN.{length, take}
 use Rattle.scan.specs.Lines.{lines}
-use Rattle.text.specs.Utf8.{readable}
+use Rattle.utf8.specs.Utf8.{readable}
 use Rattle.text.specs.White.{trimEnd}
 use Rattle.columns.specs.Columns.{columnHeader}
 use Rattle.columns.specs.declared.ColumnsRead.{ColumnsRead}

@@ -44,7 +44,7 @@ pub fn detect_text_dump(bytes: &[u8]) -> bool
         return false;
     }
     is_graphic(s[0])
-        & text::is_readable(s)
+        & utf8::is_readable(s)
         & (contains(s, b"BGP table") | contains(s, b"Next Hop") | contains(s, b"Status codes:"))
 }
 
@@ -182,7 +182,7 @@ pub fn parse_header(text: &[u8]) -> HeaderRead
         let end = scan::line_end(text, at);
         let line = &text[at..end];
         met += 1;
-        if !text::is_readable(line) {
+        if !utf8::is_readable(line) {
             return HeaderRead::Unreadable(met);
         }
         let t = text::trim_end(line);

@@ -1,3 +1,4 @@
 pub mod LineLaws
 pub mod PathLaws
 pub mod OriginLaws
+pub mod PrefixLaws

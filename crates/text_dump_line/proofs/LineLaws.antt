@@ -4,16 +4,16 @@ use mathlib.Core.Path.{_≡_, refl, sym, ap, _∙_}
 use mathlib.Core.Bool.{Bool, true, false, cond, not, _&&_}
 use mathlib.Core.List.{List, [], _∷_, _++_, flatten}
 use native.Mathlib.Omega.{arith}
-use lib.ListN.{length, take, drop, length-drop}
-use lib.Seq.{take-all, take-at, drop-append-le}
+use lib.ListN.{length, take, drop, length-drop, drop-of-length-le}
+use lib.Seq.{take-all, take-nil, take-at, drop-append-le}
 use lib.Dec.{leb}
 use borrow.Author.Tests.{le-leb, lt-leb, leb-true, not-true, not-false}
-use Rattle.text.specs.Utf8.{chars, readable}
-use Rattle.text.specs.Edge.{isEdge, hasSlice}
+use Rattle.utf8.specs.Utf8.{chars, readable}
+use Rattle.utf8.specs.Edge.{isEdge, hasSlice}
 use Rattle.scan.specs.Ascii.{ascii}
 use Rattle.scan.specs.Search.{startsWith}
 use Rattle.text.specs.White.{isSpace, trim, trimStart, trimEnd}
-use Rattle.text.proofs.TestLaws.{both}
+use Rattle.utf8.proofs.TestLaws.{both}
 use Rattle.text.proofs.TrimLaws.{dropped, trim-end-part}
 use Rattle.decimal.specs.Decimal.{readU32}
 use Rattle.decimal.specs.declared.U32Read.{U32Read}
@@ -124,6 +124,19 @@ pub entry : (t : List ℕ) (c : Columns) (hop : IpAddr) (m l : U32Read) (k : ℕ
 entry t c hop m l k o em el ek eo =
     let p : o ≡ originOf (drop k t) = eo ∙ ap originOf (take-all (length t - k) (drop k t) (simp length-drop (omega arith))) in
     rw (em, el, p, ek)
+
+-- the bytes between two places, where they do not lie in the text in this order
+module _ (s : List ℕ) (a b : ℕ) where
+  pub between-back : b < a → [] ≡ take (b - a) (drop a s)
+  between-back h = let z : b - a ≡ 0 = omega arith in rw z
+
+  pub between-past : length s < a → [] ≡ take (b - a) (drop a s)
+  between-past h =
+      let g : length s ≤ a = omega arith in
+      rw (drop-of-length-le s g) (sym (take-nil (b - a)))
+
+  pub between-end : length s < b → take (length s - a) (drop a s) ≡ take (b - a) (drop a s)
+  between-end h = take-all (length s - a) (drop a s) (simp length-drop (omega arith)) ∙ sym (take-all (b - a) (drop a s) (simp length-drop (omega arith)))
 
 -- the path's part of a line is that of the trimmed line: the slice from Path on
 pub path-part : (s : List ℕ) (c : Columns) (hop : IpAddr) → pathOf (entryOf c hop (trimEnd s)) s ≡ drop (pathStart (c .path) (trimEnd s)) (trimEnd s)

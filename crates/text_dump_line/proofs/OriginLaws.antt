@@ -9,9 +9,9 @@ use lib.ListN.{length, getD, take, drop, take-append-drop, drop-of-length-le}
 use lib.Seq.{drop-cons}
 use Rattle.scan.specs.Lists.{onto, nonEmpty, splitBy, tokensBy}
 use Rattle.scan.specs.Search.{equal}
-use Rattle.text.specs.Utf8.{charsFrom, chars, charLen, codePoint}
+use Rattle.utf8.specs.Utf8.{charsFrom, chars, charLen, codePoint}
 use Rattle.text.specs.White.{isWhite, isSpace, tokens}
-use Rattle.text.proofs.CharsLaws.{chars-append}
+use Rattle.utf8.proofs.CharsLaws.{chars-append}
 use Rattle.text_dump_line.specs.Path.{lastOr, lastToken, letter, originOf}
 use Rattle.elem.specs.declared.Origin.the-variants.{IGP, EGP, INCOMPLETE}
 use Rattle.elem.specs.declared.OptOrigin.{OptOrigin}

@@ -1,5 +1,5 @@
 -- Laws of the path's tokens.
-use Prim.Native.Nat.{ℕ, _+_, _-_, _≤_, _<_}
+use Prim.Native.Nat.{ℕ, zero, suc, _+_, _-_, _≤_, _<_}
 use mathlib.Core.Path.{_≡_, refl, sym, ap, _∙_}
 use mathlib.Core.Bool.{Bool, true, false, cond}
 use mathlib.Core.List.{List, [], _∷_, _++_, append-assoc, append-nil}
@@ -105,6 +105,36 @@ pub asns-are : (s : List ℕ) → asnsOf s ≡ numbers (tokens s)
 unfolding asnsOf
 asns-are s = numbers-taken-off (tokens s)
 
+-- no more tokens than bytes, and no more numbers than tokens
+tokens-left : (n : ℕ) (s : List ℕ) (i : ℕ) → length s - i ≤ n → length (tokens (drop i s)) ≤ length s - i
+tokens-left zero s i h = go (nextToken s i) refl
+  where
+    go : (w : Token) → nextToken s i ≡ w → length (tokens (drop i s)) ≤ length s - i
+    go NoToken e = rw (walk-end s i e) (omega arith)
+    go (At a b) e = absurd (omega (arith, walk s i a b e .from, walk s i a b e .some-byte, walk s i a b e .inside))
+tokens-left (suc n) s i h = go (λ j l. tokens-left n s j l) (nextToken s i) refl
+  where
+    go : ((j : ℕ) → length s - j ≤ n → length (tokens (drop j s)) ≤ length s - j) → (w : Token) → nextToken s i ≡ w → length (tokens (drop i s)) ≤ length s - i
+    go ih NoToken e = rw (walk-end s i e) (omega arith)
+    go ih (At a b) e =
+        let w : Walk s i a b = walk s i a b e in
+        let l : length s - b ≤ n = omega (arith, w .from, w .some-byte, w .inside) in
+        rw (w .step) (omega (arith, ih b l, w .from, w .some-byte, w .inside))
+
+numbers-few : (ws : List (List ℕ)) → length (numbers ws) ≤ length ws
+unfolding numbers
+numbers-few [] = omega arith
+numbers-few (w ∷ ws) = go (readU32 w) (numbers-few ws)
+  where
+    go : (r : U32Read) → length (numbers ws) ≤ length ws → length (ifNumber r (numbers ws)) ≤ suc (length ws)
+    go (Number n) h = omega arith
+    go NoNumber h = omega arith
+
+pub asns-few : (s out : List ℕ) → length s ≤ length out → length (asnsOf s) ≤ length out
+asns-few s out h =
+    let t : length (tokens (drop 0 s)) ≤ length s - 0 = tokens-left (length s) s 0 (omega arith) in
+    rw (asns-are s) (omega (arith, numbers-few (tokens s), t))
+
 -- the walk over the numbers: n of them are in front of the place at
 pub count-starts : (s : List ℕ) → 0 + length (numbers (tokens (drop 0 s))) ≡ length (asnsOf s)
 count-starts s = omega (arith, ap length (asns-are s))
@@ -185,6 +215,7 @@ module _ (asns old : List ℕ) (n : ℕ) (q : n ≡ length asns) where
   pub enough-room : n ≤ length old → length asns ≤ length old
   enough-room h = omega arith
 
-  pub wrote-all : n ≤ length old → (k : ℕ) (new : List ℕ) → k ≡ length asns → new ≡ asns ++ drop (length asns) old → (Wrote k ≡ putAnswer asns old) × (new ≡ putList asns old)
-  unfolding putAnswer putList
-  wrote-all h k new e f = let z : leb (length asns) (length old) ≡ true = le-leb (length asns) (length old) (omega arith) in (rw (z, e), rw (z, f))
+pub wrote-all : (asns old : List ℕ) → length asns ≤ length old → (k : ℕ) (new : List ℕ) → k ≡ length asns → new ≡ asns ++ drop (length asns) old
+    → (Wrote k ≡ putAnswer asns old) × (new ≡ putList asns old)
+unfolding putAnswer putList
+wrote-all asns old h k new e f = let z : leb (length asns) (length old) ≡ true = le-leb (length asns) (length old) h in (rw (z, e), rw (z, f))

@@ -6,8 +6,8 @@ use lib.ListN.{length, take, drop}
 use lib.Dec.{leb}
 use Rattle.scan.specs.Ascii.{ascii}
 use Rattle.scan.specs.Search.{startsWith}
-use Rattle.text.specs.Utf8.{readable}
-use Rattle.text.specs.Edge.{hasSlice}
+use Rattle.utf8.specs.Utf8.{readable}
+use Rattle.utf8.specs.Edge.{hasSlice}
 use Rattle.text.specs.White.{trim, trimStart, trimEnd}
 use Rattle.decimal.specs.Decimal.{readU32}
 use Rattle.network.specs.Address.{readAddress}

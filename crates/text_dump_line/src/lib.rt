@@ -7,7 +7,7 @@ ghost use Rattle.text.specs.White.{trimEnd};
 ghost use Rattle.decimal.specs.Decimal.{readU32};
 ghost use Rattle.network.specs.Address.{readAddress};
 ghost use Rattle.text_dump_line.specs.Path.{lastToken, letter, originOf, asnsOf, putAnswer, putList};
-ghost use Rattle.text_dump_line.specs.Line.{slice as sliceOf, column as columnOf, displayed, prefixText, pathStart, entryOf, routeOf, anyRoute, wrappedOf, lineOf};
+ghost use Rattle.text_dump_line.specs.Line.{slice as sliceOf, pathOf, column as columnOf, displayed, prefixText, pathStart, entryOf, routeOf, anyRoute, wrappedOf, lineOf};
 use columns::Columns;
 use columns::ColumnsRead;
 use decimal::U32Read;
@@ -51,7 +51,7 @@ pub enum Line {
 fn slice(t: &[u8], a: usize, b: usize) -> &[u8]
     ensures { λ r. ⌜ now r ≡ sliceOf a b (now (t .entry)) ⌝ }
 {
-    if text::has_slice(t, a, b) {
+    if utf8::has_slice(t, a, b) {
         &t[a..b]
     } else {
         &t[..0]
@@ -151,7 +151,7 @@ fn origin_of(s: &[u8]) -> OptOrigin
 fn path_start(t: &[u8], path: usize) -> usize
     ensures { λ r. ⌜ r ≡ pathStart path (now (t .entry)) ⌝ }
 {
-    if text::has_slice(t, path, t.len()) {
+    if utf8::has_slice(t, path, t.len()) {
         path
     } else {
         t.len()
@@ -220,7 +220,7 @@ pub fn parse_wrapped_prefix_line(line: &[u8], next_hop: usize) -> PrefixRead
 pub fn line_of(line: &[u8], columns: Columns) -> Line
     ensures { λ r. ⌜ r ≡ lineOf columns (now (line .entry)) ⌝ }
 {
-    if !text::is_readable(line) {
+    if !utf8::is_readable(line) {
         return Line::Unreadable;
     }
     let t = text::trim_end(line);
@@ -231,6 +231,24 @@ pub fn line_of(line: &[u8], columns: Columns) -> Line
         return Line::Passed;
     };
     Line::Wrapped(p)
+}
+
+// The path's part of a line, between the places that its route carries.
+pub fn path_of(line: &[u8], entry: RouteEntry) -> &[u8]
+    ensures { λ r. ⌜ now r ≡ pathOf entry (now (line .entry)) ⌝ }
+{
+    let start = entry.path_start;
+    let end = entry.path_end;
+    if end < start {
+        return &line[..0];
+    }
+    if line.len() < start {
+        return &line[..0];
+    }
+    if line.len() < end {
+        return &line[start..];
+    }
+    &line[start..end]
 }
 
 // How many AS numbers a path's part has.
@@ -273,10 +291,14 @@ pub enum AsnsPut {
     TooFew,
 }
 
-// The AS numbers at the front of the lent list, or a refusal.
+// The AS numbers at the front of the lent list, or a refusal. Each takes a byte of the part at least: where there are as many places, they need
+// not be counted.
 pub fn put_asns(part: &[u8], out: &mut [u32]) -> AsnsPut
     ensures { λ r. ⌜ (r ≡ putAnswer (asnsOf (now (part .entry))) (now (out .entry))) × (now (out .exit) ≡ putList (asnsOf (now (part .entry))) (now (out .entry))) ⌝ }
 {
+    if part.len() <= out.len() {
+        return AsnsPut::Wrote(write_asns(part, out));
+    }
     if out.len() < count_asns(part) {
         return AsnsPut::TooFew;
     }

@@ -1,4 +1,5 @@
-// Runs the cases of `text_dump_header` and `text_dump_line` (data/cases.txt) and prints a line for each group.
+// Runs the cases of `text_dump_header` and `text_dump_line` (data/cases.txt) and prints a line for each group. A group's name
+// begins with the call: detect, header, put_asns, route or line.
 use cases::Tally;
 use columns::Columns;
 use columns::ColumnsRead;
@@ -15,6 +16,7 @@ use text_dump_line::AsnsPut;
 use text_dump_line::Line;
 use text_dump_line::PrefixText;
 use text_dump_line::RouteEntry;
+use text_dump_line::RouteRead;
 
 // `first`, and n.
 fn put_pair(out: &mut [u8], at: usize, first: &[u8], n: u64) -> usize {
@@ -187,6 +189,32 @@ fn put_line(out: &mut [u8], line: &[u8], c: Columns) -> usize {
     }
 }
 
+// What a route carries by the columns alone.
+fn put_carried(out: &mut [u8], line: &[u8], c: Columns) -> usize {
+    let RouteRead::Route(_, e) = text_dump_line::parse_route_line(line, c) else {
+        return cases::put(out, 0, b"nothing");
+    };
+    put_entry(out, 0, line, e)
+}
+
+fn put_wrote(out: &mut [u8], r: AsnsPut) -> usize {
+    let AsnsPut::Wrote(n) = r else {
+        return cases::put(out, 0, b"refused 7");
+    };
+    cases::put_decimal(out, 0, n as u64)
+}
+
+// put_asns on lent places: the answer, and what all of them hold then.
+fn put_lent(out: &mut [u8], part: &[u8], places: &mut [u32]) -> usize {
+    let k = put_wrote(out, text_dump_line::put_asns(part, places));
+    cases::put_places(out, k, b",", places)
+}
+
+fn put_asns(out: &mut [u8], part: &[u8], room: usize) -> usize {
+    let mut places = [9u32; 64];
+    put_lent(out, part, cases::first_places(&mut places, room))
+}
+
 fn columns_of(case: &[u8]) -> Columns {
     Columns {
         next_hop: cases::number(case, 1),
@@ -199,11 +227,17 @@ fn columns_of(case: &[u8]) -> Columns {
 
 fn answer(case: &[u8], s: &[u8], line: &[u8], out: &mut [u8]) -> usize {
     let name = cases::field(case, 0);
-    if scan::same(name, b"detect") {
+    if scan::starts_with(name, b"detect") {
         return cases::put_yes_no(out, 0, text_dump_header::detect_text_dump(s));
     }
-    if scan::same(name, b"header") {
+    if scan::starts_with(name, b"header") {
         return put_header(out, text_dump_header::parse_header(s));
+    }
+    if scan::same(name, b"put_asns") {
+        return put_asns(out, s, cases::number(case, 2));
+    }
+    if scan::starts_with(name, b"route") {
+        return put_carried(out, line, columns_of(case));
     }
     put_line(out, line, columns_of(case))
 }

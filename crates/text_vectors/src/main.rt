@@ -68,13 +68,13 @@ fn text_answer(line: &[u8], s: &[u8], out: &mut [u8]) -> usize {
     }
     let a = cases::number(line, 2);
     if scan::same(name, b"edge") {
-        return cases::put_yes_no(out, 0, text::is_edge(s, a));
+        return cases::put_yes_no(out, 0, utf8::is_edge(s, a));
     }
     if scan::same(name, b"slice") {
-        return cases::put_yes_no(out, 0, text::has_slice(s, a, cases::number(line, 3)));
+        return cases::put_yes_no(out, 0, utf8::has_slice(s, a, cases::number(line, 3)));
     }
     if scan::same(name, b"utf8") | scan::same(name, b"rfc3629") {
-        return cases::put_yes_no(out, 0, text::is_readable(s));
+        return cases::put_yes_no(out, 0, utf8::is_readable(s));
     }
     0
 }

@@ -7,7 +7,7 @@ use Prim.Native.Nat.{ℕ, _-_}
 use lib.Ieee.{Float}
 use lib.ListN.{length, take, drop}
 use borrow.Author.Tests.{not-true, not-false}
-use Rattle.text.specs.Utf8.{readable}
+use Rattle.utf8.specs.Utf8.{readable}
 use Rattle.calendar.specs.declared.Date.{Date}
 use Rattle.seconds.specs.Seconds.{asSecond, isSome, timestampOf}
 use Rattle.seconds.specs.declared.SecondRead.{SecondRead}

@@ -10,7 +10,7 @@ use lib.Ieee.{Float}
 use lib.ListN.{length, getD, drop}
 use borrow.Author.Tests.{leb-true, eqb-true}
 use Rattle.decimal.specs.Decimal.{isDigit}
-use Rattle.text.specs.Utf8.{readable}
+use Rattle.utf8.specs.Utf8.{readable}
 use Rattle.calendar.specs.Calendar.{total, isDate, daysBefore}
 use Rattle.calendar.specs.declared.Date.{Date}
 use Rattle.calendar.proofs.Range.{within-years}

@@ -4,7 +4,7 @@ use mathlib.Core.List.{List, [], _∷_}
 use lib.IntN.{pos}
 use lib.Ieee.{binary64, neg, ofInt}
 use Rattle.calendar.specs.Calendar.{total}
-use Rattle.text.specs.Utf8.{all, charsFrom, charLen}
+use Rattle.utf8.specs.Utf8.{all, charsFrom, charLen}
 use Rattle.seconds.specs.Seconds.{timestampOf}
 use Rattle.timestamp.specs.Dates.{hasShape, dateOf, digitBefore, momentOf, momentIn, isDashed, isDotted, firstFrom, noonIn, secondIn, inferTimestamp}
 use Rattle.timestamp.specs.declared.Inferred.the-variants.{Timestamp, Nothing}

@@ -6,7 +6,7 @@ use mathlib.Core.Option.{Option, some, none}
 use lib.Dec.{leb, eqb}
 use lib.ListN.{length, getD, drop}
 use Rattle.decimal.specs.Decimal.{isDigit}
-use Rattle.text.specs.Utf8.{readable}
+use Rattle.utf8.specs.Utf8.{readable}
 use Rattle.seconds.specs.Seconds.{timestampOf, isSome}
 use Rattle.calendar.specs.Calendar.{isDate, daysBefore}
 use Rattle.calendar.specs.declared.Date.{Date}

@@ -185,7 +185,7 @@ fn second_in(path: &[u8]) -> SecondRead
 pub fn infer_timestamp_from_path(path: &[u8]) -> Inferred
     ensures { λ r. ⌜ (r ≡ inferTimestamp (now (path .entry))) × (number r ≡ refusal (now (path .entry))) ⌝ }
 {
-    if !text::is_readable(path) {
+    if !utf8::is_readable(path) {
         return Inferred::NotUtf8;
     }
     let SecondRead::Second(o) = second_in(path) else {

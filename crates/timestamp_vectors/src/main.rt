@@ -1,6 +1,6 @@
 // Runs the cases of `timestamp` and `seconds` (data/cases.txt) and prints a line for each group.
 use cases::Tally;
-use decimal::Put;
+use output::Put;
 use seconds::SecondRead;
 use seconds::TimestampRead;
 use timestamp::Inferred;

@@ -3,7 +3,7 @@ use mathlib.Core.Bool.{true}
 use Prim.Native.Nat.{_+_, _*_, _-_, _≤_}
 use native.Mathlib.Omega.{arith}
 use lib.ListN.{length, drop}
-use Rattle.decimal.specs.Printed.{decimal}
+use Rattle.decimal_display.specs.Printed.{decimal}
 use Rattle.aspath_display.specs.Display.{separated}
 use Rattle.aspath_display.proofs.Text.{len-more, len-end}
 use Rattle.aspath_display.proofs.numbers_len.Statement.{statement}

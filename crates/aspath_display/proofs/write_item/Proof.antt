@@ -1,4 +1,4 @@
-use Rattle.decimal.proofs.Output.{then}
+use Rattle.output.proofs.Output.{then}
 use borrow.Author.Needs.{needs}
 use Rattle.aspath_display.proofs.write_item.Statement.{statement}
 use Rattle.aspath_display.proofs.write_item.Tie as tie

@@ -2,8 +2,8 @@ use mathlib.Core.Path.{_≡_}
 use mathlib.Core.Bool.{true}
 use Prim.Native.Nat.{_-_, _≤_}
 use lib.ListN.{length, drop}
-use Rattle.decimal.specs.Printed.{decimal}
-use Rattle.decimal.proofs.Output.{Left, all-left}
+use Rattle.decimal_display.specs.Printed.{decimal}
+use Rattle.output.proofs.Output.{Left, all-left}
 use Rattle.aspath_display.specs.Display.{separated}
 use Rattle.aspath_display.proofs.Text.{write-more, write-end}
 use Rattle.aspath_display.proofs.write_numbers.Statement.{statement}

@@ -1,7 +1,7 @@
 use mathlib.Core.Path.{_≡_}
 use Prim.Native.Nat.{_-_, _≤_}
 use lib.ListN.{length, drop}
-use Rattle.decimal.proofs.Output.{Left, all-left}
+use Rattle.output.proofs.Output.{Left, all-left}
 use Rattle.aspath.specs.Record.{segmentsOf}
 use Rattle.aspath.proofs.Record.{length-there}
 use Rattle.aspath.proofs.Walk.{Place, place-start, place-next, numbers-end, place-fits, length-fits, end-fits}

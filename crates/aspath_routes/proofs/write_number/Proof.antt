@@ -1,4 +1,4 @@
-use Rattle.decimal.proofs.Output.{byte-written, no-room}
+use Rattle.output.proofs.Output.{byte-written, no-room}
 use borrow.Author.Needs.{needs}
 use Rattle.aspath_routes.proofs.write_number.Statement.{statement}
 use Rattle.aspath_routes.proofs.write_number.Tie as tie

@@ -1,7 +1,7 @@
 use mathlib.Core.Path.{_≡_}
 use Prim.Native.Nat.{_-_, _≤_}
 use lib.ListN.{length, drop}
-use Rattle.decimal.proofs.Output.{Left, all-left}
+use Rattle.output.proofs.Output.{Left, all-left}
 use Rattle.aspath_routes.specs.Runs.{after}
 use Rattle.aspath_routes.proofs.Runs.{write-none, write-first, write-end, write-repeat, write-new}
 use Rattle.aspath_routes.proofs.write_runs.Statement.{statement}

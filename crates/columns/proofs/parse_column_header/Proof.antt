@@ -81,6 +81,9 @@ enum-told-5 c = search needs
 returns-5 : tie.Need-returns-5
 returns-5 c = search (laws, needs)
 
+are-rising-requires : tie.Need-are-rising-requires
+are-rising-requires c κs = search needs
+
 returns-6 : tie.Need-returns-6
 returns-6 c = search (laws, needs)
 
@@ -116,5 +119,6 @@ parse-column-header-spec =
     enum-known-path
     enum-told-5
     returns-5
+    are-rising-requires
     returns-6
     returns-7)

@@ -4,7 +4,7 @@ use Rattle.psv.proofs.get_psv_header.Statement.{statement}
 use Rattle.psv.proofs.get_psv_header.Tie as tie
 use Rattle.psv.proofs.get_psv_header.Reads as reads
 use Rattle.psv.proofs.get_psv_header.Lts as lts
-use Rattle.decimal.proofs.write_bytes.Reads as write-bytes-reads
+use Rattle.output.proofs.write_bytes.Reads as write-bytes-reads
 
 ruleset laws = (header-short, header-written)
 

@@ -4,14 +4,14 @@ use Prim.Native.Nat.{_-_, _≤_}
 use native.Mathlib.Omega.{arith}
 use lib.ListN.{length, drop}
 use lib.Dec.{leb}
-use Rattle.decimal.specs.Printed.{decimal}
+use Rattle.decimal_display.specs.Printed.{decimal}
 use Rattle.aspath_display.specs.Display.{separated}
 use Rattle.psv.proofs.Printing.{room-more, room-none, room-end}
 use Rattle.psv.proofs.has_room.Statement.{statement}
 use Rattle.psv.proofs.has_room.Tie as tie
 use Rattle.psv.proofs.has_room.Reads as reads
 use Rattle.psv.proofs.has_room.Lts as lts
-use Rattle.psv.proofs.number_len.Reads as number-len-reads
+use Rattle.aspath_display.proofs.number_len.Reads as number-len-reads
 use borrow.Author.Needs.{needs}
 
 ruleset laws = (room-more, room-none, room-end)

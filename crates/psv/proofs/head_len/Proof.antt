@@ -4,7 +4,7 @@ use Rattle.psv.proofs.head_len.Statement.{statement}
 use Rattle.psv.proofs.head_len.Tie as tie
 use Rattle.psv.proofs.head_len.Reads as reads
 use Rattle.psv.proofs.head_len.Lts as lts
-use Rattle.decimal.proofs.decimal_len.Reads as decimal-len-reads
+use Rattle.decimal_display.proofs.decimal_len.Reads as decimal-len-reads
 use Rattle.network_display.proofs.address_len.Reads as address-len-reads
 use Rattle.network_display.proofs.prefix_text_len.Reads as prefix-text-len-reads
 use Rattle.psv.proofs.time_len.Reads as time-len-reads

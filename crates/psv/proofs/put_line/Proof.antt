@@ -11,7 +11,7 @@ use Rattle.psv.proofs.has_room.Reads as has-room-reads
 use Rattle.psv.proofs.head_len.Reads as head-len-reads
 use Rattle.psv.proofs.tail_len.Reads as tail-len-reads
 use Rattle.psv.proofs.write_head.Reads as write-head-reads
-use Rattle.psv.proofs.write_numbers.Reads as write-numbers-reads
+use Rattle.aspath_display.proofs.write_numbers.Reads as write-numbers-reads
 use Rattle.psv.proofs.write_tail.Reads as write-tail-reads
 
 ruleset laws = (slice-within, put-spoilt, put-short, put-no-room, put-written)

@@ -4,27 +4,21 @@ use Rattle.psv.proofs.write_attributes.Statement.{statement}
 use Rattle.psv.proofs.write_attributes.Tie as tie
 use Rattle.psv.proofs.write_attributes.Reads as reads
 use Rattle.psv.proofs.write_attributes.Lts as lts
-use Rattle.decimal.proofs.write_byte.Reads as write-byte-reads
-use Rattle.decimal.proofs.write_bytes.Reads as write-bytes-reads
-use Rattle.psv.proofs.write_hop.Reads as write-hop-reads
+use Rattle.output.proofs.write_byte.Reads as write-byte-reads
+use Rattle.output.proofs.write_bytes.Reads as write-bytes-reads
+use Rattle.psv.proofs.write_preference.Reads as write-preference-reads
 use Rattle.psv.proofs.write_u32.Reads as write-u32-reads
 
 ruleset laws = (attributes-written)
 
-write-hop-requires : tie.Need-write-hop-requires
-write-hop-requires c κs = search needs
+write-preference-requires : tie.Need-write-preference-requires
+write-preference-requires c κs = search needs
 
 write-byte-requires : tie.Need-write-byte-requires
 write-byte-requires c κs = search needs
 
 write-u32-requires : tie.Need-write-u32-requires
 write-u32-requires c κs = search needs
-
-write-byte-requires-2 : tie.Need-write-byte-requires-2
-write-byte-requires-2 c κs = search needs
-
-write-u32-requires-2 : tie.Need-write-u32-requires-2
-write-u32-requires-2 c κs = search needs
 
 slice-aggregate-write-bytes : tie.Need-slice-aggregate-write-bytes
 slice-aggregate-write-bytes c = search needs
@@ -36,17 +30,15 @@ same-length : tie.Need-same-length
 same-length c = search needs
 
 returns : tie.Need-returns
-returns c = search (laws, needs)
+returns c = search laws
 
 pub write-attributes-spec : {M : Type 1} → statement M
 write-attributes-spec =
     tie.close
     (tie.spec
-    write-hop-requires
+    write-preference-requires
     write-byte-requires
     write-u32-requires
-    write-byte-requires-2
-    write-u32-requires-2
     slice-aggregate-write-bytes
     write-bytes-requires
     same-length

@@ -4,7 +4,7 @@ use Rattle.psv.proofs.write_head.Statement.{statement}
 use Rattle.psv.proofs.write_head.Tie as tie
 use Rattle.psv.proofs.write_head.Reads as reads
 use Rattle.psv.proofs.write_head.Lts as lts
-use Rattle.decimal.proofs.write_byte.Reads as write-byte-reads
+use Rattle.output.proofs.write_byte.Reads as write-byte-reads
 use Rattle.network_display.proofs.write_prefix.Reads as write-prefix-reads
 use Rattle.psv.proofs.write_peer.Reads as write-peer-reads
 

@@ -4,8 +4,8 @@ use Rattle.psv.proofs.write_peer.Statement.{statement}
 use Rattle.psv.proofs.write_peer.Tie as tie
 use Rattle.psv.proofs.write_peer.Reads as reads
 use Rattle.psv.proofs.write_peer.Lts as lts
-use Rattle.decimal.proofs.write_byte.Reads as write-byte-reads
-use Rattle.decimal.proofs.write_u32.Reads as write-u32-reads
+use Rattle.output.proofs.write_byte.Reads as write-byte-reads
+use Rattle.decimal_display.proofs.write_u32.Reads as write-u32-reads
 use Rattle.network_display.proofs.write_address.Reads as write-address-reads
 use Rattle.psv.proofs.write_start.Reads as write-start-reads
 

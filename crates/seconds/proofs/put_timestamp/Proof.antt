@@ -1,4 +1,4 @@
-use Rattle.decimal.proofs.Output.{too-short, kept, wrote, whole}
+use Rattle.output.proofs.Output.{too-short, kept, wrote, whole}
 use borrow.Author.Needs.{needs}
 use Rattle.seconds.proofs.put_timestamp.Statement.{statement}
 use Rattle.seconds.proofs.put_timestamp.Tie as tie

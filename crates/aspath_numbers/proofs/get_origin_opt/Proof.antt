@@ -1,0 +1,26 @@
+use Rattle.aspath.proofs.Record.{spoilt-path, passed}
+use borrow.Author.Needs.{needs}
+use Rattle.aspath_numbers.proofs.get_origin_opt.Statement.{statement}
+use Rattle.aspath_numbers.proofs.get_origin_opt.Tie as tie
+use Rattle.aspath_numbers.proofs.get_origin_opt.Reads as reads
+use Rattle.aspath_numbers.proofs.get_origin_opt.Lts as lts
+use Rattle.aspath.proofs.is_spoilt.Reads as is-spoilt-reads
+use Rattle.aspath_numbers.proofs.last_number.Reads as last-number-reads
+
+ruleset laws = (passed)
+
+is-spoilt-requires : tie.Need-is-spoilt-requires
+is-spoilt-requires c κs = search (laws, needs)
+
+returns : tie.Need-returns
+returns c = rw (spoilt-path _ _ _ _ _ _ (c .before .is-spoilt .ensures) (c .if1 .taken))
+
+last-number-requires : tie.Need-last-number-requires
+last-number-requires c κs = search (laws, needs)
+
+returns-2 : tie.Need-returns-2
+returns-2 c = search (laws, needs)
+
+pub get-origin-opt-spec : {M : Type 1} → statement M
+get-origin-opt-spec =
+    tie.close (tie.spec is-spoilt-requires returns last-number-requires returns-2)

@@ -1,0 +1,99 @@
+// Decimal numbers printed.
+ghost use mathlib.Core.Path.{_≡_};
+ghost use Prim.Native.Nat.{_≤_};
+ghost use lib.ListN.{length};
+ghost use Rattle.decimal_display.specs.Printed.{decimal, difference};
+ghost use Rattle.output.specs.Output.{Written, front, answer};
+
+// How many digits n has. The powers do not depend on n: the loop unrolls to comparisons.
+pub fn decimal_len(n: u64) -> usize
+    ensures { λ r. ⌜ (r ≡ length (decimal n)) × (r ≤ 20) ⌝ }
+{
+    let mut len = 1;
+    let mut power: u64 = 10;
+    while len < 19 {
+        if n < power {
+            return len;
+        }
+        power = power * 10;
+        len += 1;
+    }
+    if n < power { len } else { len + 1 }
+}
+
+// The digits of n fill out.
+fn fill(n: u64, out: &mut [u8])
+    requires { ⌜ length (now out) ≡ length (decimal n) ⌝ }
+    ensures { λ _. ⌜ now (out .exit) ≡ decimal n ⌝ }
+{
+    let mut i = out.len();
+    let mut y = n;
+    while 10 <= y {
+        i -= 1;
+        out[i] = 48 + (y % 10) as u8;
+        y = y / 10;
+    }
+    out[0] = 48 + y as u8;
+}
+
+// The digits that have room are the digits of n without its last ones.
+pub fn write_u64(n: u64, out: &mut [u8], at: usize) -> usize
+    ensures { λ r. ⌜ Written (decimal n) (now (out .entry)) at (now (out .exit)) r ⌝ }
+{
+    if out.len() <= at {
+        return at;
+    }
+    let room = out.len() - at;
+    let mut len = decimal_len(n);
+    let mut y = n;
+    while room < len {
+        y = y / 10;
+        len -= 1;
+    }
+    let end = at + len;
+    fill(y, &mut out[at..end]);
+    end
+}
+
+pub fn write_u32(n: u32, out: &mut [u8], at: usize) -> usize
+    ensures { λ r. ⌜ Written (decimal n) (now (out .entry)) at (now (out .exit)) r ⌝ }
+{
+    write_u64(n as u64, out, at)
+}
+
+// The whole number a - b, and how many bytes it takes.
+pub fn write_difference(a: u64, b: u64, out: &mut [u8], at: usize) -> usize
+    ensures { λ r. ⌜ Written (difference a b) (now (out .entry)) at (now (out .exit)) r ⌝ }
+{
+    if a < b {
+        let behind_sign = output::write_byte(b'-', out, at);
+        write_u64(b - a, out, behind_sign)
+    } else {
+        write_u64(a - b, out, at)
+    }
+}
+
+pub fn difference_len(a: u64, b: u64) -> usize
+    ensures { λ r. ⌜ (r ≡ length (difference a b)) × (r ≤ 21) ⌝ }
+{
+    if b <= a {
+        decimal_len(a - b)
+    } else {
+        1 + decimal_len(b - a)
+    }
+}
+
+pub fn put_u64(n: u64, out: &mut [u8]) -> output::Put
+    ensures { λ r. ⌜ (r ≡ answer (decimal n) (now (out .entry))) × (now (out .exit) ≡ front (decimal n) (now (out .entry))) ⌝ }
+{
+    if out.len() < decimal_len(n) {
+        return output::Put::TooShort;
+    }
+    output::Put::Wrote(write_u64(n, out, 0))
+}
+
+pub fn put_u32(n: u32, out: &mut [u8]) -> output::Put
+    ensures { λ r. ⌜ (r ≡ answer (decimal n) (now (out .entry))) × (now (out .exit) ≡ front (decimal n) (now (out .entry))) ⌝ }
+{
+    put_u64(n as u64, out)
+}

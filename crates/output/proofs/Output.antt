@@ -1,0 +1,219 @@
+-- Laws of text written into a lent list.
+use mathlib.Core.Path.{_≡_, refl, sym, ap, _∙_}
+use mathlib.Core.List.{List, [], _∷_, _++_, append-assoc, append-nil}
+use mathlib.Core.Bool.{Bool, true, false}
+use Prim.Native.Nat.{ℕ, suc, _+_, _-_, _≤_, _<_, min}
+use native.Mathlib.Nat.{zero-add, add-zero, add-assoc, min-eq-left}
+use native.Mathlib.Numerals.{add-one}
+use native.Mathlib.Omega.{arith}
+use lib.ListN.{length, getD, take, drop, set, length-append, length-take}
+use lib.Seq.{paste, paste-zero, paste-suc, length-paste, take-paste, drop-paste, drop-drop, take-append-add, take-append-le, take-all, take-length, set-split, append-snoc}
+use lib.Dec.{leb}
+use borrow.Author.Tests.{le-leb, lt-leb, leb-true, leb-false}
+use Rattle.output.specs.Output.{room, overwrite, Written, front, answer}
+use Rattle.output.specs.declared.Put.the-variants.{Wrote, TooShort}
+
+-- a text has room as far as the list reaches, and no longer than it is
+pub room-short : (out : List ℕ) (at : ℕ) (t : List ℕ) → length out ≤ at → room out at t ≡ 0
+unfolding room
+room-short out at t h = omega arith
+
+pub room-inside : (out : List ℕ) (at : ℕ) (t : List ℕ) → at ≤ length out → at + room out at t ≤ length out
+unfolding room
+room-inside out at t h = omega arith
+
+pub room-text : (out : List ℕ) (at : ℕ) (t : List ℕ) → room out at t ≤ length t
+unfolding room
+room-text out at t = omega arith
+
+-- where the text fits, all of it has room
+pub room-all : (out : List ℕ) (at : ℕ) (t : List ℕ) → at + length t ≤ length out → room out at t ≡ length t
+unfolding room
+room-all out at t h = omega arith
+
+-- nothing is written behind the list's end
+pub overwrite-short : (out : List ℕ) (at : ℕ) (t : List ℕ) → length out ≤ at → overwrite out at t ≡ out
+unfolding overwrite
+overwrite-short out at t h = rw (room-short out at t h) (sym (paste-zero out at t))
+
+-- where the text fits, it stands there whole
+pub overwrite-all : (out : List ℕ) (at : ℕ) (t : List ℕ) → at + length t ≤ length out
+    → overwrite out at t ≡ take at out ++ t ++ drop (at + length t) out
+unfolding overwrite
+overwrite-all out at t h = rw (room-all out at t h, take-length t)
+
+-- writing keeps the list's length
+pub length-overwrite : (out : List ℕ) (at : ℕ) (t : List ℕ) → length (overwrite out at t) ≡ length out
+unfolding overwrite
+length-overwrite out at t = go (leb at (length out)) refl
+  where
+    go : (b : Bool) → leb at (length out) ≡ b → length (overwrite out at t) ≡ length out
+    go true e = length-paste out at t (room out at t) (room-inside out at t (leb-true at (length out) e)) (room-text out at t)
+    go false e = ap length (overwrite-short out at t (omega (arith, leb-false at (length out) e)))
+
+-- what has room of two texts
+room-two : (out : List ℕ) (at : ℕ) (t u : List ℕ)
+    → room out at (t ++ u) ≡ room out at t + room (overwrite out at t) (at + room out at t) u
+unfolding room
+room-two out at t u = rw (length-append, length-overwrite out at t) (omega arith)
+
+-- behind a text that was cut off there is no room
+room-cut : (out : List ℕ) (at : ℕ) (t u : List ℕ) → room out at t < length t → room (overwrite out at t) (at + room out at t) u ≡ 0
+unfolding room
+room-cut out at t u h = rw (length-overwrite out at t) (omega arith)
+
+-- the bytes of two texts that have room, one text behind the other
+take-two : (n m : ℕ) (t u : List ℕ) → n ≤ length t → (n < length t → m ≡ 0) → take (n + m) (t ++ u) ≡ take n t ++ take m u
+take-two n m t u h z = go (leb (length t) n) refl
+  where
+    go : (b : Bool) → leb (length t) n ≡ b → take (n + m) (t ++ u) ≡ take n t ++ take m u
+    go true e =
+        let k : n ≡ length t = omega (arith, leb-true (length t) n e) in rw (k, take-length t) (take-append-add t u m)
+    go false e =
+        let k : m ≡ 0 = z (leb-false (length t) n e) in rw k (simp (append-nil, add-zero) (take-append-le n t u h))
+
+paste-two : (d : List ℕ) (at n m : ℕ) (t u : List ℕ) → at ≤ length d → n ≤ length t → (n < length t → m ≡ 0)
+    → paste (paste d at t n) (at + n) u m ≡ paste d at (t ++ u) (n + m)
+paste-two d at n m t u h l z =
+    rw (take-paste d at t n h l, back, take-two n m t u l z)
+    (ap (λ (x : List ℕ). x ++ drop (at + n + m) d) (append-assoc (take at d) (take n t) (take m u)) ∙ rw add-assoc)
+  where
+    back : drop (at + n + m) (paste d at t n) ≡ drop (at + n + m) d
+    back = sym (drop-drop m (at + n) (paste d at t n)) ∙ ap (drop m) (drop-paste d at t n h l) ∙ drop-drop m (at + n) d
+
+-- one text behind another is the two texts' append, whether or not they fit
+pub overwrite-two : (out : List ℕ) (at : ℕ) (t u : List ℕ)
+    → overwrite (overwrite out at t) (at + room out at t) u ≡ overwrite out at (t ++ u)
+unfolding overwrite
+overwrite-two out at t u = go (leb at (length out)) refl
+  where
+    go : (b : Bool) → leb at (length out) ≡ b → overwrite (overwrite out at t) (at + room out at t) u ≡ overwrite out at (t ++ u)
+    go true e =
+        paste-two out at (room out at t) (room (overwrite out at t) (at + room out at t) u) t u (leb-true at (length out) e) (room-text out at t) (room-cut out at t u)
+        ∙ rw (← room-two out at t u)
+    go false e =
+        let h : length out ≤ at = omega (arith, leb-false at (length out) e) in
+        rw (overwrite-short out at t h)
+        (overwrite-short out (at + room out at t) u (omega arith) ∙ sym (overwrite-short out at (t ++ u) h))
+
+-- a writer of t and then, at the place that it answered, a writer of u are a writer of t ++ u
+pub then : {t u out o₁ o₂ : List ℕ} {at a b : ℕ} → Written t out at o₁ a → Written u o₁ a o₂ b → Written (t ++ u) out at o₂ b
+then {t} {u} {out} {o₁} {o₂} {at} {a} {b} v w =
+    record {
+      list = w .list ∙ rw (v .list, v .place) (overwrite-two out at t u);
+      place = w .place ∙ rw (v .place, v .list, room-two out at t u) (add-assoc at (room out at t) _);
+    }
+
+-- no room, or nothing to write
+pub none-written : (t out : List ℕ) (at : ℕ) → room out at t ≡ 0 → Written t out at out at
+unfolding overwrite
+none-written t out at h = record { list = rw h (paste-zero out at t); place = omega arith }
+
+pub no-room : (t out : List ℕ) (at : ℕ) → length out ≤ at → Written t out at out at
+no-room t out at h = none-written t out at (room-short out at t h)
+
+pub nothing : (out : List ℕ) (at : ℕ) → Written [] out at out at
+nothing out at = none-written [] out at (omega (arith, room-text out at []))
+
+-- Writing in a loop. The text was to stand at the place at₀ of out₀; the list is now out, and from the place at on the rest is left to write.
+pub record Left (text out₀ : List ℕ) (at₀ : ℕ) (rest out : List ℕ) (at : ℕ) : Type 0 where
+  pub list : overwrite out₀ at₀ text ≡ overwrite out at rest
+  pub place : at₀ + room out₀ at₀ text ≡ at + room out at rest
+
+-- at first all is left
+pub all-left : (text out : List ℕ) (at : ℕ) → Left text out at text out at
+all-left text out at = record { list = refl; place = refl }
+
+-- a writer of what comes next
+pub next-left : {text out₀ t rest out o : List ℕ} {at₀ at a : ℕ} → Left text out₀ at₀ (t ++ rest) out at → Written t out at o a → Left text out₀ at₀ rest o a
+next-left {text} {out₀} {t} {rest} {out} {o} {at₀} {at} {a} l w =
+    record {
+      list = l .list ∙ rw (w .list, w .place) (sym (overwrite-two out at t rest));
+      place = l .place ∙ rw (w .list, w .place, room-two out at t rest) (sym (add-assoc at (room out at t) _));
+    }
+
+-- a writer of all that is left, and nothing left
+pub last-left : {text out₀ rest out o : List ℕ} {at₀ at a : ℕ} → Left text out₀ at₀ rest out at → Written rest out at o a → Written text out₀ at₀ o a
+last-left l w = record { list = w .list ∙ sym (l .list); place = w .place ∙ sym (l .place) }
+
+pub none-left : {text out₀ out : List ℕ} {at₀ at : ℕ} → Left text out₀ at₀ [] out at → Written text out₀ at₀ out at
+none-left {text} {out₀} {out} {at₀} {at} l = last-left l (nothing out at)
+
+-- a writer that had room for all of its text
+pub all-written : (t out new : List ℕ) (at a : ℕ) → Written t out at new a → at + length t ≤ length out
+    → (new ≡ take at out ++ t ++ drop (at + length t) out) × (a ≡ at + length t)
+all-written t out new at a w h = (w .list ∙ overwrite-all out at t h, omega (arith, w .place, room-all out at t h))
+
+-- one byte
+pub byte-written : (b : ℕ) (out : List ℕ) (at : ℕ) → at < length out → Written (b ∷ []) out at (set out at b) (at + 1)
+byte-written b out at h =
+    record {
+      list = set-split out at b h ∙ sym (append-snoc (take at out) b (drop (suc at) out)) ∙ rw (← add-one) (sym (overwrite-all out at (b ∷ []) (omega arith)));
+      place = omega (arith, room-all out at (b ∷ []) (omega arith));
+    }
+
+-- one more byte copied
+pub copied : (t out new : List ℕ) (at n i : ℕ) → n ≡ min (length t) (length out - at) → new ≡ paste out at t i → i < n
+    → set new (at + i) (getD t i 0) ≡ paste out at t (i + 1)
+copied t out new at n i e f h = rw (f, add-one) (paste-suc out at t i 0 (omega arith) (omega arith))
+
+-- n bytes copied, as many as there is room for
+pub bytes-written : (t out new : List ℕ) (at n i : ℕ) → n ≡ min (length t) (length out - at) → new ≡ paste out at t i → i ≤ n → n ≤ i
+    → Written t out at new (at + n)
+unfolding overwrite room
+bytes-written t out new at n i e f h l = let z : i ≡ n = omega arith in record { list = f ∙ rw (z, e); place = rw e }
+
+-- what has room of a text, written to its part of the list
+take-room : (out : List ℕ) (at : ℕ) (t : List ℕ) → take (room out at t) t ≡ take (length out - at) t
+unfolding room
+take-room out at t = go (leb (length t) (length out - at)) refl
+  where
+    go : (b : Bool) → leb (length t) (length out - at) ≡ b → take (min (length t) (length out - at)) t ≡ take (length out - at) t
+    go true e =
+        let h : length t ≤ length out - at = leb-true (length t) (length out - at) e in
+        rw (min-eq-left h, take-length t) (sym (take-all (length out - at) t h))
+    go false e =
+        let z : min (length t) (length out - at) ≡ length out - at = omega (arith, leb-false (length t) (length out - at) e) in
+        rw z
+
+length-room : (out : List ℕ) (at : ℕ) (t : List ℕ) → length (take (length out - at) t) ≡ room out at t
+unfolding room
+length-room out at t = simp length-take (omega arith)
+
+pub part-written : (t out ys : List ℕ) (at len : ℕ) → ys ≡ take (length out - at) t → len ≡ length ys
+    → Written t out at (take at out ++ (ys ++ drop (at + len - at) (drop at out))) (at + len)
+unfolding overwrite
+part-written t out ys at len e f =
+    record {
+      list = rw (z, drop-drop, take-room out at t, ← e) (sym (append-assoc (take at out) ys (drop (at + room out at t) out)));
+      place = ap (λ (k : ℕ). at + k) n;
+    }
+  where
+    n : len ≡ room out at t
+    n = f ∙ ap length e ∙ length-room out at t
+
+    z : at + len - at ≡ room out at t
+    z = omega (arith, n)
+
+-- a call that measured its text and refuses
+module _ (t out : List ℕ) (n : ℕ) (e : n ≡ length t) where
+  pub too-short : length out < n → TooShort ≡ answer t out
+  unfolding answer
+  too-short h = simp (← e, lt-leb n (length out) h)
+
+  pub kept : length out < n → out ≡ front t out
+  unfolding front
+  kept h = simp (← e, lt-leb n (length out) h)
+
+  -- or lets a writer run from the list's start
+  pub wrote : (new : List ℕ) (a : ℕ) → n ≤ length out → Written t out 0 new a → Wrote a ≡ answer t out
+  unfolding answer
+  wrote new a h w = rw (z, le-leb (length t) (length out) (omega arith))
+    where
+      z : a ≡ length t
+      z = omega (arith, w .place, room-all out 0 t (omega arith))
+
+  pub whole : (new : List ℕ) (a : ℕ) → n ≤ length out → Written t out 0 new a → new ≡ front t out
+  unfolding front
+  whole new a h w =
+      w .list ∙ overwrite-all out 0 t (omega arith) ∙ simp (zero-add, le-leb (length t) (length out) (omega arith))

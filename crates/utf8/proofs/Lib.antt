@@ -1,0 +1,7 @@
+pub mod TestLaws
+pub mod ListLaws
+pub mod CharLaws
+pub mod CharsLaws
+pub mod ReadableLaws
+pub mod EncodeLaws
+pub mod EdgeLaws
