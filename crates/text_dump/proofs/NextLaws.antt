@@ -1,0 +1,224 @@
+-- What next answers, case by case.
+use Prim.Native.Nat.{ℕ, _-_, _≤_, _<_}
+use mathlib.Core.Path.{_≡_, refl, sym, ap, subst, _∙_}
+use mathlib.Core.Bool.{Bool, true, false, cond}
+use mathlib.Core.List.{List, [], _∷_, _++_}
+use mathlib.Core.Logic.{⊎-elim}
+use mathlib.Core.Option.{some, none}
+use native.Mathlib.Omega.{arith}
+use types.Run.{OneOf}
+use denote.Enum.Declared.{tagOf}
+use Rattle.text_dump.proofs.Remembered.{the-type}
+use lib.ListN.{length, length-append, take, drop}
+use lib.Seq.{take-at}
+use lib.Dec.{leb}
+use Rattle.scan.specs.Lines.{lineEnd}
+use Rattle.scan.proofs.LineLaws.{lineEnd-inside, lineEnd-after}
+use Rattle.network.specs.declared.NetworkPrefix.{NetworkPrefix}
+use Rattle.elem.specs.declared.Element.{Element as Elem}
+use Rattle.elem.specs.declared.OptAsn.{OptAsn}
+use Rattle.text_dump_line.specs.Path.{asnsOf, putAnswer, putList}
+use Rattle.text_dump_line.specs.Line.{lineOf, pathOf}
+use Rattle.text_dump_line.specs.declared.RouteEntry.{RouteEntry}
+use Rattle.text_dump_line.specs.declared.PrefixText.{PrefixText}
+use Rattle.text_dump_line.specs.declared.AsnsPut.{AsnsPut}
+use Rattle.text_dump_line.specs.declared.AsnsPut.the-variants.{Wrote, TooFew}
+use Rattle.text_dump_line.specs.declared.Line.{Line}
+use Rattle.text_dump_line.specs.declared.Line.the-variants.{Unreadable as UnreadableLine, Passed, Wrapped, Route}
+use Rattle.plain_reader.specs.Rules.{Remembered as Plain, nothing, invalid, valid, replace}
+use Rattle.plain_reader.specs.Calls.{Answer, element, end, refused}
+use Rattle.plain_reader.specs.Cursor.{Cursor, next-at}
+use Rattle.plain_reader.proofs.LineLoop as loop
+use Rattle.plain_reader.proofs.LineLoop.{come}
+use Rattle.text_dump.specs.State.{plain, cursor, moved, spoilt}
+use Rattle.text_dump.specs.Rules.{textOf, said, originAsn, elementOf, rules}
+use Rattle.text_dump.specs.Next.{Step, stepped, next, told, lent, between, Answers, atRoute, outcome, Inside, Reaches}
+use Rattle.text_dump.specs.declared.Remembered.{Remembered}
+use Rattle.text_dump.specs.declared.Remembered.the-variants.{Nothing, Invalid, Valid}
+use Rattle.text_dump.specs.declared.State.{State}
+use Rattle.text_dump.specs.declared.Next.{Next}
+use Rattle.text_dump.specs.declared.Next.the-variants.{Element, End, Spoilt, Unreadable, TooFewPlaces}
+use Rattle.text_dump.specs.declared.Reached.{Reached}
+use Rattle.text_dump.specs.declared.Reached.the-variants.{Route as AtRoute, End as AtEnd, Unreadable as AtUnreadable}
+use Rattle.text_dump.proofs.StateLaws.{moved-cursor, position-inside}
+
+-- the loop over the lines
+module _ (σ : State) (t : List ℕ) where
+  -- it has come to the position i with m remembered
+  abbrev pub Came : ℕ → Remembered → Type 0
+  Came i m = (k : ℕ) → next-at (rules σ) t k (cursor σ) ≡ come (rules σ) t (cursor σ) k i (plain m)
+
+  pub comes : Came (σ .position) (σ .remembered)
+  comes k = loop.begins (rules σ) t (cursor σ) k
+
+  module _ (i : ℕ) (m : Remembered) (came : Came i m) where
+    pub at-end : length t ≤ i → Reaches σ t (AtEnd m)
+    at-end h = ((λ k. came k ∙ loop.ends (rules σ) t (cursor σ) k i (plain m) h), tt)
+
+    module _ (inside : i < length t) (e : ℕ) (here : e ≡ lineEnd t i) where
+      pub line-order : i ≤ e
+      line-order = omega (arith, lineEnd-after t i inside)
+
+      pub line-inside : e ≤ length t
+      line-inside = omega (arith, lineEnd-inside t i (omega arith))
+
+      pub line-less : length t - e < length t - i
+      line-less = omega (arith, lineEnd-after t i inside)
+
+      module _ (y : Line) (c : y ≡ lineOf (σ .columns) (take (e - i) (drop i t))) where
+        says : rules σ .classify (between σ t i e) ≡ said (between σ t i e) y
+        says = ap (said (between σ t i e)) (sym c)
+
+        pub unreadable : y ≡ UnreadableLine → σ .position ≤ length t → Reaches σ t AtUnreadable
+        unreadable h b = ((λ k. came k ∙ loop.six (rules σ) t (cursor σ) k i e (plain m) inside here (says ∙ ap (said (between σ t i e)) h) b), tt)
+
+        pub passes : y ≡ Passed → Came e m
+        passes h k = came k ∙ loop.passes (rules σ) t (cursor σ) k i e (plain m) inside here (says ∙ ap (said (between σ t i e)) h)
+
+        pub wraps : (p : NetworkPrefix) → y ≡ Wrapped p → Came e (Valid p)
+        wraps p h k = came k ∙ loop.wraps (rules σ) t (cursor σ) k i e (plain m) inside here p (says ∙ ap (said (between σ t i e)) h)
+
+        module _ (x : PrefixText) (r : RouteEntry) (h : y ≡ Route x r) (n : Remembered) (g : plain n ≡ replace (textOf x) (plain m)) where
+          is-route : rules σ .classify (between σ t i e) ≡ said (between σ t i e) (Route x r)
+          is-route = says ∙ ap (said (between σ t i e)) h
+
+          pub passes-route : OneOf (0 ∷ 1 ∷ []) (tagOf the-type n) → Came e n
+          passes-route o k = came k ∙ go n o g
+            where
+              go : (n : Remembered) → OneOf (0 ∷ 1 ∷ []) (tagOf the-type n) → plain n ≡ replace (textOf x) (plain m)
+                  → come (rules σ) t (cursor σ) k i (plain m) ≡ come (rules σ) t (cursor σ) k e (plain n)
+              go Nothing o g = loop.under-nothing (rules σ) t (cursor σ) k i e (plain m) inside here (textOf x) (r, asnsOf (pathOf r (between σ t i e))) is-route (sym g)
+              go Invalid o g = loop.under-invalid (rules σ) t (cursor σ) k i e (plain m) inside here (textOf x) (r, asnsOf (pathOf r (between σ t i e))) is-route (sym g)
+              go (Valid p) o g = absurd (⊎-elim (λ e. let z : _≡_ {A = ℕ} 2 0 = e in omega arith) (λ e. let z : _≡_ {A = ℕ} 2 1 = e in omega arith) o)
+
+          pub reaches-route : (p : NetworkPrefix) → n ≡ Valid p → σ .position ≤ length t → Reaches σ t (AtRoute p r i e)
+          reaches-route p f b = ((λ k. came k ∙ go k (leb (length asns) k) refl), (line-order, line-inside))
+            where
+              asns : List ℕ
+              asns = asnsOf (pathOf r (between σ t i e))
+
+              brings : replace (textOf x) (plain m) ≡ valid p
+              brings = sym g ∙ ap plain f
+
+              go : (k : ℕ) (q : Bool) → leb (length asns) k ≡ q → come (rules σ) t (cursor σ) k i (plain m) ≡ atRoute σ k p (r, asns) e
+              go k true s = loop.yields (rules σ) t (cursor σ) k i e (plain m) inside here (textOf x) (r, asns) is-route p brings (rw s) ∙ rw s
+              go k false s = loop.short (rules σ) t (cursor σ) k i e (plain m) inside here (textOf x) (r, asns) is-route p 7 brings (rw s) b ∙ rw s
+
+-- a refusal leaves the state as it was
+stays : (σ : State) (n : ℕ) → stepped σ (refused n, cursor σ) ≡ (refused n, σ)
+stays σ n = ap (λ (s : State). (refused n, s)) (moved-cursor σ)
+
+-- AS numbers into a lent list: all of them, or a refusal with the list as it was
+module _ (asns old : List ℕ) where
+  pub too-few : putAnswer asns old ≡ TooFew → leb (length asns) (length old) ≡ false
+  unfolding putAnswer
+  too-few = go (leb (length asns) (length old))
+    where
+      go : (b : Bool) → cond b (Wrote (length asns)) TooFew ≡ TooFew → b ≡ false
+      go true h = let z : _≡_ {A = ℕ} 0 1 = cc in absurd (omega arith)
+      go false h = refl
+
+  pub enough : (n : ℕ) → putAnswer asns old ≡ Wrote n → (leb (length asns) (length old) ≡ true) × (n ≡ length asns)
+  unfolding putAnswer
+  enough n = go (leb (length asns) (length old))
+    where
+      go : (b : Bool) → cond b (Wrote (length asns)) TooFew ≡ Wrote n → (b ≡ true) × (n ≡ length asns)
+      go true h = (refl, cc)
+      go false h = let z : _≡_ {A = ℕ} 0 1 = cc in absurd (omega arith)
+
+  pub put-nothing : leb (length asns) (length old) ≡ false → putList asns old ≡ old
+  unfolding putList
+  put-nothing h = rw h
+
+  pub put-all : leb (length asns) (length old) ≡ true → putList asns old ≡ asns ++ drop (length asns) old
+  unfolding putList
+  put-all h = rw h
+
+  pub count-inside : (put : AsnsPut) (new : List ℕ) → (put ≡ putAnswer asns old) × (new ≡ putList asns old) → (n : ℕ) → put ≡ Wrote n → n ≤ length new
+  count-inside put new wrote n k =
+      let h : (leb (length asns) (length old) ≡ true) × (n ≡ length asns) = enough n (sym (wrote .0) ∙ k) in
+      rw (h .1, wrote .1, put-all (h .0)) (simp length-append (omega arith))
+
+-- a route under a valid prefix
+module _ (σ : State) (p : NetworkPrefix) (e : RouteEntry) (line : List ℕ) (j : ℕ) (old : List ℕ) (path : List ℕ) (g : path ≡ pathOf e line) (put : AsnsPut) (new : List ℕ) (wrote : (put ≡ putAnswer (asnsOf path) old) × (new ≡ putList (asnsOf path) old)) where
+  abbrev step : Step
+  step = stepped σ (atRoute σ (length old) p (e, asnsOf (pathOf e line)) j)
+
+  -- an answer, by the step over the path that was read
+  by-path : (z : Step) → stepped σ (atRoute σ (length old) p (e, asnsOf path) j) ≡ z → (r : Next) → told r new ≡ z → new ≡ lent (z .0) old → Answers step old r new
+  by-path z h r f k =
+      let same : step ≡ z = ap (λ (l : List ℕ). stepped σ (atRoute σ (length old) p (e, asnsOf l) j)) (sym g) ∙ h in
+      (f ∙ sym same, k ∙ ap (λ (y : Step). lent (y .0) old) (sym same))
+
+  pub refuses-7 : put ≡ TooFew → Answers step old (TooFewPlaces σ) new
+  refuses-7 k =
+      let few : leb (length (asnsOf path)) (length old) ≡ false = too-few (asnsOf path) old (sym (wrote .0) ∙ k) in
+      by-path (refused 7, σ) (rw few (stays σ 7)) (TooFewPlaces σ) refl (wrote .1 ∙ put-nothing (asnsOf path) old few)
+
+  module _ (n : ℕ) (k : put ≡ Wrote n) where
+    fits : leb (length (asnsOf path)) (length old) ≡ true
+    fits = enough (asnsOf path) old n (sym (wrote .0) ∙ k) .0
+
+    counted : n ≡ length (asnsOf path)
+    counted = enough (asnsOf path) old n (sym (wrote .0) ∙ k) .1
+
+    laid : new ≡ asnsOf path ++ drop (length (asnsOf path)) old
+    laid = wrote .1 ∙ put-all (asnsOf path) old fits
+
+    front : take (length (asnsOf path)) new ≡ asnsOf path
+    front = rw laid (take-at (asnsOf path) (drop (length (asnsOf path)) old) (length (asnsOf path)) refl)
+
+    pub yields : (o : OptAsn) → o ≡ originAsn (take n new) → (y : Elem) → y ≡ elementOf σ p e n o → (s : State) → s ≡ moved σ (record { at = j; remembered = valid p })
+        → Answers step old (Element y s) new
+    yields o eo y ey s es =
+        let made : Elem = elementOf σ p e (length (asnsOf path)) (originAsn (asnsOf path)) in
+        let origin : o ≡ originAsn (asnsOf path) = eo ∙ ap originAsn (ap (λ (k : ℕ). take k new) counted ∙ front) in
+        let same : y ≡ made = ey ∙ ap (λ (x : OptAsn). elementOf σ p e n x) origin ∙ ap (λ (k : ℕ). elementOf σ p e k (originAsn (asnsOf path))) counted in
+        by-path (element (made, asnsOf path), moved σ (record { at = j; remembered = valid p })) (rw fits) (Element y s)
+        (ap (λ (v : Elem). told (Element v s) new) same ∙ ap (λ (l : List ℕ). (element (made, l), s)) front ∙ ap (λ (z : State). (element (made, asnsOf path), z)) es)
+        laid
+
+-- next's ways out, by what the loop reached
+module _ (σ : State) (t old : List ℕ) (b : Bool) (eb : b ≡ spoilt σ (length t)) where
+  answers : (z : Step) → next σ t (length old) ≡ z → (r : Next) (new : List ℕ) → Answers z old r new → Answers (next σ t (length old)) old r new
+  answers z e r new h = (h .0 ∙ sym e, h .1 ∙ ap (λ (y : Step). lent (y .0) old) (sym e))
+
+  is-5 : b ≡ true → next σ t (length old) ≡ (refused 5, σ)
+  unfolding next
+  is-5 h = rw (← eb, h)
+
+  pub refuses-5 : b ≡ true → Answers (next σ t (length old)) old (Spoilt σ) old
+  refuses-5 h = answers (refused 5, σ) (is-5 h) (Spoilt σ) old (refl, refl)
+
+  module _ (h : b ≡ false) where
+    pub in-part : σ .position ≤ length t
+    in-part = position-inside σ (length t) (sym eb ∙ h)
+
+    steps : next σ t (length old) ≡ stepped σ (next-at (rules σ) t (length old) (cursor σ))
+    unfolding next
+    steps = rw (← eb, h)
+
+    module _ (x : Reached) (reaches : Reaches σ t x) where
+      reached : (y : Reached) → x ≡ y → next σ t (length old) ≡ stepped σ (outcome σ t (length old) y)
+      reached y e = steps ∙ ap (stepped σ) (reaches .0 (length old)) ∙ ap (λ y. stepped σ (outcome σ t (length old) y)) e
+
+      pub refuses-6 : x ≡ AtUnreadable → Answers (next σ t (length old)) old (Unreadable σ) old
+      refuses-6 e = answers (refused 6, σ) (reached AtUnreadable e ∙ stays σ 6) (Unreadable σ) old (refl, refl)
+
+      pub says-end : (m : Remembered) → x ≡ AtEnd m → (s : State) → s ≡ moved σ (record { at = length t; remembered = plain m }) → Answers (next σ t (length old)) old (End s) old
+      says-end m e s f =
+          answers (end, moved σ (record { at = length t; remembered = plain m })) (reached (AtEnd m) e) (End s) old (ap (λ (y : State). (end, y)) f, refl)
+
+      module _ (p : NetworkPrefix) (e : RouteEntry) (i j : ℕ) (f : x ≡ AtRoute p e i j) where
+        within : (i ≤ j) × (j ≤ length t)
+        within = subst (Inside σ t) f (reaches .1)
+
+        pub route-order : i ≤ j
+        route-order = within .0
+
+        pub route-inside : j ≤ length t
+        route-inside = within .1
+
+        pub at-route : (r : Next) (new : List ℕ) → Answers (stepped σ (atRoute σ (length old) p (e, asnsOf (pathOf e (take (j - i) (drop i t)))) j)) old r new
+            → Answers (next σ t (length old)) old r new
+        at-route r new h = answers (stepped σ (atRoute σ (length old) p (e, asnsOf (pathOf e (between σ t i j))) j)) (reached (AtRoute p e i j) f) r new h
