@@ -1,0 +1,6 @@
+pub mod Fronts
+pub mod Texts
+pub mod Lines
+pub mod Steps
+pub mod Runs
+pub mod Cuts

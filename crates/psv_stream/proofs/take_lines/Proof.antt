@@ -1,0 +1,121 @@
+use Prim.Native.Nat.{_+_, _-_, _≤_}
+use native.Mathlib.Omega.{arith}
+use lib.ListN.{length}
+use borrow.Author.Needs.{needs}
+use Rattle.psv_stream.specs.Run.{come}
+use Rattle.psv_stream.proofs.Runs.{Came, none-yet, full, room-length, same-new, inside, within, stops-within, fewer, takes, stops, starves}
+use Rattle.psv_stream.proofs.take_lines.Statement.{statement}
+use Rattle.psv_stream.proofs.take_lines.Tie as tie
+use Rattle.psv_stream.proofs.take_lines.Reads as reads
+use Rattle.psv_stream.proofs.take_lines.Lts as lts
+use Rattle.psv_stream.proofs.take_line.Reads as take-line-reads
+
+ruleset laws = (none-yet, full, room-length, same-new, inside, within, stops-within, fewer, takes, stops, starves)
+
+abbrev Inv-loop : tie.InvT-loop
+Inv-loop input ended asns₀ out₀ phase₀ consumed₀ written₀ asns out phase consumed written = Came phase₀ input ended out₀ phase consumed written out
+
+abbrev μ-loop : tie.MeasureT-loop
+μ-loop input ended asns₀ out₀ phase₀ consumed₀ written₀ asns out phase consumed written = length input - (consumed + come phase)
+
+loop-holds : tie.Need-loop-holds Inv-loop μ-loop
+loop-holds c = search none-yet
+
+sub-loop : tie.Need-sub-loop Inv-loop μ-loop
+sub-loop c = search (laws, needs)
+
+sub-take-line : tie.Need-sub-take-line Inv-loop μ-loop
+sub-take-line c = search (laws, needs)
+
+part-take-line-start : tie.Need-part-take-line-start Inv-loop μ-loop
+part-take-line-start c = search (laws, needs)
+
+part-take-line-end : tie.Need-part-take-line-end Inv-loop μ-loop
+part-take-line-end c = search (laws, needs)
+
+sub-take-line-2 : tie.Need-sub-take-line-2 Inv-loop μ-loop
+sub-take-line-2 c = search (laws, needs)
+
+part-take-line-start-2 : tie.Need-part-take-line-start-2 Inv-loop μ-loop
+part-take-line-start-2 c = search (laws, needs)
+
+part-take-line-end-2 : tie.Need-part-take-line-end-2 Inv-loop μ-loop
+part-take-line-end-2 c = search (laws, needs)
+
+take-line-requires : tie.Need-take-line-requires Inv-loop μ-loop
+take-line-requires c κs = search (laws, needs)
+
+enum-told : tie.Need-enum-told Inv-loop μ-loop
+enum-told c = search (laws, needs)
+
+same-length : tie.Need-same-length Inv-loop μ-loop
+same-length c = search (laws, needs)
+
+returns : tie.Need-returns Inv-loop μ-loop
+returns c = search starves
+
+enum-known-step : tie.Need-enum-known-step Inv-loop μ-loop
+enum-known-step c = search (laws, needs)
+
+add-t25 : tie.Need-add-t25 Inv-loop μ-loop
+add-t25 c =
+    let h : c .before .before .before .before .before .before .before .before .before .before .loop .written + c .before .step .given .0 .0 ≤ length (c .before .before .before .before .before .before .before .before .before .before .before .before .before .args .out .now) = search laws in omega (arith, h)
+
+same-length-2 : tie.Need-same-length-2 Inv-loop μ-loop
+same-length-2 c = search (laws, needs)
+
+returns-2 : tie.Need-returns-2 Inv-loop μ-loop
+returns-2 c = search stops
+
+enum-known-step-2 : tie.Need-enum-known-step-2 Inv-loop μ-loop
+enum-known-step-2 c = search (laws, needs)
+
+add-consumed : tie.Need-add-consumed Inv-loop μ-loop
+add-consumed c =
+    let h : c .before .before .before .before .before .before .before .before .before .before .loop .consumed + c .before .step2 .given .0 .1 .0 ≤ length (c .before .before .before .before .before .before .before .before .before .before .before .before .before .args .input .now) = search laws in omega (arith, h)
+
+add-written : tie.Need-add-written Inv-loop μ-loop
+add-written c =
+    let h : c .before .before .before .before .before .before .before .before .before .before .loop .written + c .before .step2 .given .0 .1 .1 .0 ≤ length (c .before .before .before .before .before .before .before .before .before .before .before .before .before .args .out .now) = search laws in omega (arith, h)
+
+loop-less : tie.Need-loop-less Inv-loop μ-loop
+loop-less c = search fewer
+
+loop-again : tie.Need-loop-again Inv-loop μ-loop
+loop-again c = search takes
+
+same-length-3 : tie.Need-same-length-3 Inv-loop μ-loop
+same-length-3 c = search (laws, needs)
+
+returns-3 : tie.Need-returns-3 Inv-loop μ-loop
+returns-3 c = search full
+
+pub take-lines-spec : {M : Type 1} → statement M
+take-lines-spec =
+    tie.close
+    (tie.spec
+    Inv-loop
+    μ-loop
+    loop-holds
+    sub-loop
+    sub-take-line
+    part-take-line-start
+    part-take-line-end
+    sub-take-line-2
+    part-take-line-start-2
+    part-take-line-end-2
+    take-line-requires
+    enum-told
+    same-length
+    returns
+    enum-known-step
+    add-t25
+    same-length-2
+    returns-2
+    enum-known-step-2
+    add-consumed
+    add-written
+    loop-less
+    loop-again
+    same-length-3
+    returns-3)

@@ -1,0 +1,19 @@
+use native.Mathlib.Omega.{arith}
+use lib.ListN.{length-take}
+use borrow.Author.Needs.{needs}
+use Rattle.table2psv.proofs.first.Statement.{statement}
+use Rattle.table2psv.proofs.first.Tie as tie
+use Rattle.table2psv.proofs.first.Reads as reads
+use Rattle.table2psv.proofs.first.Lts as lts
+
+slice-aggregate-result : tie.Need-slice-aggregate-result
+slice-aggregate-result c = simp length-take (omega arith)
+
+returns : tie.Need-returns
+returns c = search needs
+
+returns-2 : tie.Need-returns-2
+returns-2 c = search needs
+
+pub first-spec : {M : Type 1} → statement M
+first-spec = tie.close (tie.spec slice-aggregate-result returns returns-2)

@@ -1,0 +1,75 @@
+use mathlib.Core.Path.{_≡_}
+use lib.ListN.{length}
+use borrow.Author.Needs.{needs}
+use Rattle.table2psv.proofs.print_all.Statement.{statement}
+use Rattle.table2psv.proofs.print_all.Tie as tie
+use Rattle.table2psv.proofs.print_all.Reads as reads
+use Rattle.table2psv.proofs.print_all.Lts as lts
+use Rattle.table2psv.proofs.is_stopped.Reads as is-stopped-reads
+use Rattle.table2psv.proofs.print.Reads as print-reads
+use Rattle.table2psv.proofs.read.Reads as read-reads
+
+abbrev Inv-loop : tie.InvT-loop
+Inv-loop input₀ out₀ t₀ turns₀ input out t turns = (length input ≡ length input₀) × (length out ≡ length out₀)
+
+abbrev μ-loop : tie.MeasureT-loop
+μ-loop input₀ out₀ t₀ turns₀ input out t turns = turns
+
+loop-holds : tie.Need-loop-holds Inv-loop μ-loop
+loop-holds c = search needs
+
+read-requires : tie.Need-read-requires Inv-loop μ-loop
+read-requires c κs = search needs
+
+print-requires : tie.Need-print-requires Inv-loop μ-loop
+print-requires c κs = search needs
+
+is-stopped-requires : tie.Need-is-stopped-requires Inv-loop μ-loop
+is-stopped-requires c κs = search needs
+
+same-length : tie.Need-same-length Inv-loop μ-loop
+same-length c = search needs
+
+same-length-2 : tie.Need-same-length-2 Inv-loop μ-loop
+same-length-2 c = search needs
+
+returns : tie.Need-returns Inv-loop μ-loop
+returns c = search needs
+
+sub-turns : tie.Need-sub-turns Inv-loop μ-loop
+sub-turns c = search needs
+
+loop-less : tie.Need-loop-less Inv-loop μ-loop
+loop-less c = search needs
+
+loop-again : tie.Need-loop-again Inv-loop μ-loop
+loop-again c = search needs
+
+same-length-3 : tie.Need-same-length-3 Inv-loop μ-loop
+same-length-3 c = search needs
+
+same-length-4 : tie.Need-same-length-4 Inv-loop μ-loop
+same-length-4 c = search needs
+
+returns-2 : tie.Need-returns-2 Inv-loop μ-loop
+returns-2 c = search needs
+
+pub print-all-spec : {M : Type 1} → statement M
+print-all-spec =
+    tie.close
+    (tie.spec
+    Inv-loop
+    μ-loop
+    loop-holds
+    read-requires
+    print-requires
+    is-stopped-requires
+    same-length
+    same-length-2
+    returns
+    sub-turns
+    loop-less
+    loop-again
+    same-length-3
+    same-length-4
+    returns-2)
