@@ -1,0 +1,5 @@
+pub mod Answers
+pub mod Reading
+pub mod Writing
+pub mod RoundTrip
+pub mod OneSpelling

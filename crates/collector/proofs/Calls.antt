@@ -1,0 +1,160 @@
+-- What each exported call leaves, by the tests and answers on the way: one law for each way through it. Assumes nothing.
+use mathlib.Core.Path.{_≡_, refl, sym, ap, _∙_}
+use mathlib.Core.Bool.{Bool, true, false, cond}
+use mathlib.Core.List.{List}
+use mathlib.Core.Option.{Option, some, none}
+use Prim.Native.Nat.{ℕ, _≤_, _<_}
+use native.Mathlib.Omega.{arith}
+use lib.ListN.{length, take}
+use lib.Ieee.{Float}
+use borrow.Author.Tests.{lt-ltb, le-ltb}
+use Rattle.output.specs.Output.{front}
+use Rattle.text_dump_header.specs.Detect.{detect}
+use Rattle.text_dump_header.specs.Header.{header}
+use Rattle.text_dump_header.specs.declared.HeaderRead.{HeaderRead}
+use Rattle.text_dump_header.specs.declared.TextDumpHeader.{TextDumpHeader}
+use Rattle.text_dump_header.specs.declared.HeaderRead.the-variants as head
+use Rattle.elem.specs.declared.Element.{Element}
+use Rattle.plain_reader.specs.Calls.{element}
+use Rattle.text_dump.specs.State.{turned}
+use Rattle.text_dump.specs.Open.{openOf}
+use Rattle.text_dump.specs.Open as Open
+use Rattle.text_dump.specs.Next.{Step, next, told, lent, Answers}
+use Rattle.text_dump.specs.declared.State.{State}
+use Rattle.text_dump.specs.declared.Opened.{Opened}
+use Rattle.text_dump.specs.declared.Opened.the-variants.{Table, NoTimestamp, Unreadable, NoColumns}
+use Rattle.text_dump.specs.declared.Next.{Next}
+use Rattle.text_dump.specs.declared.Next.the-variants as by
+use Rattle.codec.specs.Spelling.{asState}
+use Rattle.codec.specs.declared.StateRead.{StateRead}
+use Rattle.codec.specs.declared.StateRead.the-variants as read
+use Rattle.collector.specs.Bytes.{stateBytes, elementBytes, stateIn}
+use Rattle.collector.specs.Exports.{lineAtFault, opensIn, openLeft, turnsIn, turnLeft, Left, left, answersIn, nextIn, nextLeft}
+
+some-state : (o : Option State) (σ : State) → read.State σ ≡ asState o → o ≡ some σ
+some-state (some τ) σ h = cc
+some-state none σ h = let z : _≡_ {A = ℕ} 0 1 = cc in absurd (omega arith)
+
+no-state : (o : Option State) → read.Nothing ≡ asState o → o ≡ none
+no-state (some τ) h = let z : _≡_ {A = ℕ} 0 1 = cc in absurd (omega arith)
+no-state none h = refl
+
+-- fernweeks_detect
+module _ (s : List ℕ) (b : Bool) (is : b ≡ detect s) where
+  pub a-table : b ≡ true → _≡_ {A = ℕ} 1 (cond (detect s) 1 0)
+  a-table e = rw (← is, e)
+
+  pub no-table : b ≡ false → _≡_ {A = ℕ} 0 (cond (detect s) 1 0)
+  no-table e = rw (← is, e)
+
+-- fernweeks_line_at_fault
+module _ (s : List ℕ) (r : HeaderRead) (is : r ≡ header s) where
+  pub no-fault : (h : TextDumpHeader) (at : ℕ) → r ≡ head.Header h at → 0 ≡ lineAtFault (header s)
+  no-fault h at e = ap lineAtFault (sym e ∙ is)
+
+  pub a-fault : (n : ℕ) → r ≡ head.Unreadable n → n ≡ lineAtFault (header s)
+  a-fault n e = ap lineAtFault (sym e ∙ is)
+
+-- fernweeks_open
+module _ (t : List ℕ) (time : Float) (s : List ℕ) where
+  pub open-short : length s < 128 → (9, s) ≡ openLeft t time s
+  unfolding openLeft
+  open-short h = rw (lt-ltb (length s) 128 h)
+
+  module _ (room : 128 ≤ length s) (r : Opened) (is : Open.told r ≡ openOf time t) where
+    past-open : opensIn s (Open.told r) ≡ openLeft t time s
+    unfolding openLeft
+    past-open = rw (le-ltb (length s) 128 room, is)
+
+    pub open-table : (σ : State) (new : List ℕ) → r ≡ Table σ → new ≡ front (stateBytes σ) s → (0, new) ≡ openLeft t time s
+    open-table σ new e f = rw f (sym (ap (λ (o : Opened). opensIn s (Open.told o)) e) ∙ past-open)
+
+    pub open-no-timestamp : r ≡ NoTimestamp → (4, s) ≡ openLeft t time s
+    open-no-timestamp e = sym (ap (λ (o : Opened). opensIn s (Open.told o)) e) ∙ past-open
+
+    pub open-unreadable : (n : ℕ) → r ≡ Unreadable n → (1, s) ≡ openLeft t time s
+    open-unreadable n e = sym (ap (λ (o : Opened). opensIn s (Open.told o)) e) ∙ past-open
+
+    pub open-no-columns : r ≡ NoColumns → (2, s) ≡ openLeft t time s
+    open-no-columns e = sym (ap (λ (o : Opened). opensIn s (Open.told o)) e) ∙ past-open
+
+-- fernweeks_turn
+module _ (s : List ℕ) where
+  pub turn-short : length s < 128 → (9, s) ≡ turnLeft s
+  unfolding turnLeft
+  turn-short h = rw (lt-ltb (length s) 128 h)
+
+  module _ (room : 128 ≤ length s) (r : StateRead) (is : r ≡ asState (stateIn s)) where
+    past-turn : turnsIn s (stateIn s) ≡ turnLeft s
+    unfolding turnLeft
+    past-turn = rw (le-ltb (length s) 128 room)
+
+    pub turn-no-state : r ≡ read.Nothing → (5, s) ≡ turnLeft s
+    turn-no-state e = sym (ap (turnsIn s) (no-state (stateIn s) (sym e ∙ is))) ∙ past-turn
+
+    pub turn-state : (σ τ : State) (new : List ℕ) → r ≡ read.State σ → τ ≡ turned σ → new ≡ front (stateBytes τ) s → (0, new) ≡ turnLeft s
+    turn-state σ τ new e f g = rw (g, f) (sym (ap (turnsIn s) (some-state (stateIn s) σ (sym e ∙ is))) ∙ past-turn)
+
+-- fernweeks_next
+module _ (s part a e : List ℕ) where
+  pub next-short-state : length s < 128 → left 9 s a e ≡ nextLeft s part a e
+  unfolding nextLeft
+  next-short-state h = rw (lt-ltb (length s) 128 h)
+
+  module _ (room : 128 ≤ length s) where
+    pub next-short-element : length e < 176 → left 9 s a e ≡ nextLeft s part a e
+    unfolding nextLeft
+    next-short-element h = rw (le-ltb (length s) 128 room, lt-ltb (length e) 176 h)
+
+    module _ (room-too : 176 ≤ length e) (r : StateRead) (is : r ≡ asState (stateIn s)) where
+      past-short : nextIn s a e part (stateIn s) ≡ nextLeft s part a e
+      unfolding nextLeft
+      past-short = rw (le-ltb (length s) 128 room, le-ltb (length e) 176 room-too)
+
+      pub next-no-state : r ≡ read.Nothing → left 5 s a e ≡ nextLeft s part a e
+      next-no-state h = sym (ap (nextIn s a e part) (no-state (stateIn s) (sym h ∙ is))) ∙ past-short
+
+      module _ (σ : State) (here : r ≡ read.State σ) (x : Next) (new : List ℕ) (answers : Answers (next σ part (length a)) a x new) where
+        -- a step, told
+        abbrev tells : Step → Left
+        tells z = answersIn s a e (z .0) (z .1)
+
+        past-next : tells (told x new) ≡ nextLeft s part a e
+        past-next = ap tells (answers .0) ∙ sym (ap (nextIn s a e part) (some-state (stateIn s) σ (sym here ∙ is))) ∙ past-short
+
+        -- the AS numbers as they are left
+        kept : new ≡ lent (told x new .0) a
+        kept = answers .1 ∙ ap (λ (z : Step). lent (z .0) a) (sym (answers .0))
+
+        module _ (τ : State) where
+          pub next-element : (y : Element) (s₁ e₁ : List ℕ) → x ≡ by.Element y τ → s₁ ≡ front (stateBytes τ) s → e₁ ≡ front (elementBytes y) e → left 0 s₁ new e₁ ≡ nextLeft s part a e
+          next-element y s₁ e₁ h f g =
+              let n : new ≡ lent (element (y, take (y .count) new)) a = kept ∙ ap (λ (q : Next). lent (told q new .0) a) h in
+              ap (λ (l : List ℕ). left 0 l new e₁) f
+              ∙ ap (λ (l : List ℕ). left 0 (front (stateBytes τ) s) new l) g
+              ∙ ap (λ (l : List ℕ). left 0 (front (stateBytes τ) s) l (front (elementBytes y) e)) n
+              ∙ sym (ap (λ (q : Next). tells (told q new)) h)
+              ∙ past-next
+
+          pub next-end : (s₁ : List ℕ) → x ≡ by.End τ → s₁ ≡ front (stateBytes τ) s → left 255 s₁ new e ≡ nextLeft s part a e
+          next-end s₁ h f =
+              let n : new ≡ a = kept ∙ ap (λ (q : Next). lent (told q new .0) a) h in
+              ap (λ (l : List ℕ). left 255 l new e) f
+              ∙ ap (λ (l : List ℕ). left 255 (front (stateBytes τ) s) l e) n
+              ∙ sym (ap (λ (q : Next). tells (told q new)) h)
+              ∙ past-next
+
+          pub next-spoilt : x ≡ by.Spoilt τ → left 5 s new e ≡ nextLeft s part a e
+          next-spoilt h =
+              let n : new ≡ a = kept ∙ ap (λ (q : Next). lent (told q new .0) a) h in
+              ap (λ (l : List ℕ). left 5 s l e) n ∙ sym (ap (λ (q : Next). tells (told q new)) h) ∙ past-next
+
+          pub next-unreadable : x ≡ by.Unreadable τ → left 6 s new e ≡ nextLeft s part a e
+          next-unreadable h =
+              let n : new ≡ a = kept ∙ ap (λ (q : Next). lent (told q new .0) a) h in
+              ap (λ (l : List ℕ). left 6 s l e) n ∙ sym (ap (λ (q : Next). tells (told q new)) h) ∙ past-next
+
+          pub next-too-few : x ≡ by.TooFewPlaces τ → left 7 s new e ≡ nextLeft s part a e
+          next-too-few h =
+              let n : new ≡ a = kept ∙ ap (λ (q : Next). lent (told q new .0) a) h in
+              ap (λ (l : List ℕ). left 7 s l e) n ∙ sym (ap (λ (q : Next). tells (told q new)) h) ∙ past-next

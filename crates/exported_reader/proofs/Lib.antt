@@ -1,0 +1,5 @@
+pub mod Fitting
+pub mod Stored
+pub mod Same
+pub mod Written
+pub mod Demand3

@@ -1,0 +1,39 @@
+-- Words as bytes, and back. Assumes nothing.
+use mathlib.Core.Path.{_≡_, refl, sym, ap}
+use mathlib.Core.List.{List, [], _∷_, _++_, append-assoc}
+use Prim.Native.Nat.{ℕ, zero, suc, _+_, _*_, _/_}
+use native.Mathlib.Omega.{arith}
+use lib.ListN.{length, length-append}
+use lib.Seq.{take-at, drop-at}
+use Rattle.little.specs.Little.{bytes, littleEndian, bytesOf, number, wordsIn}
+
+pub length-bytes : (n v : ℕ) → length (bytes n v) ≡ suc n
+unfolding bytes
+length-bytes zero v = refl
+length-bytes (suc n) v = ap suc (length-bytes n (v / 256))
+
+pub length-bytes-of : (w : List ℕ) → length (bytesOf w) ≡ 8 * length w
+unfolding bytesOf
+length-bytes-of [] = refl
+length-bytes-of (v ∷ w) = rw (length-append, length-bytes 7 v, length-bytes-of w) (omega arith)
+
+pub bytes-append : (a b : List ℕ) → bytesOf (a ++ b) ≡ bytesOf a ++ bytesOf b
+unfolding bytesOf
+bytes-append [] b = refl
+bytes-append (v ∷ a) b = rw (bytes-append a b) (sym (simp append-assoc))
+
+-- the bytes of a number are read as that number
+pub number-back : (n v : ℕ) → number (bytes n v) ≡ v
+unfolding bytes number
+number-back zero v = omega arith
+number-back (suc n) v = rw (number-back n (v / 256)) (omega arith)
+
+-- the bytes of words are read as those words, whatever stands behind them
+pub words-back : (w t : List ℕ) → wordsIn (length w) (bytesOf w ++ t) ≡ w
+unfolding wordsIn bytesOf
+words-back [] t = refl
+words-back (v ∷ w) t =
+    let b = littleEndian v in
+    let rest = bytesOf w ++ t in
+    let e : length b ≡ 8 = length-bytes 7 v in
+    rw (append-assoc b (bytesOf w) t, take-at b rest 8 e, drop-at b rest 8 e, number-back 7 v, words-back w t)
