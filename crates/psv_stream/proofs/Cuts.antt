@@ -1,12 +1,10 @@
 -- However reads cut the input, what is printed is the same.
 use Prim.Native.Nat.{ℕ}
-use mathlib.Core.Path.{_≡_, refl, sym, ap, _∙_}
-use mathlib.Core.Bool.{Bool, true}
-use mathlib.Core.List.{List, [], _∷_, _++_, flatten, append-assoc}
-use lib.ListN.{take, drop}
-use Rattle.scan.specs.Lines.{lines}
+use mathlib.Core.Path.{_≡_, sym, ap, _∙_}
+use mathlib.Core.List.{List, [], _++_, flatten, append-assoc}
+use lib.ListN.{take}
 use Rattle.psv_stream.specs.Printed.{printed}
-use Rattle.psv_stream.specs.Run.{rest, Later, Runs}
+use Rattle.psv_stream.specs.Run.{rest}
 use Rattle.psv_stream.specs.Drive.{Drives, reads, runs, stops}
 use Rattle.psv_stream.specs.declared.Phase.{Phase}
 use Rattle.psv_stream.specs.declared.Phase.the-variants.{Path}

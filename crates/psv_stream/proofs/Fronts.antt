@@ -4,17 +4,17 @@ use mathlib.Core.Path.{_≡_, refl, sym, ap, _∙_}
 use mathlib.Core.Bool.{Bool, true, false, cond, false≢true, _||_}
 use mathlib.Core.List.{List, [], _∷_, _++_, headD, append-nil}
 use native.Mathlib.Omega.{arith}
-use lib.ListN.{length, getD, take, drop, length-append, length-drop, drop-of-length-le}
+use lib.ListN.{length, getD, take, drop, length-drop, drop-of-length-le}
 use lib.Seq.{drop-drop, drop-append-le, getD-drop}
 use borrow.Author.Tests.{eq-eqb, eqb-true}
 use Rattle.scan.specs.Lists.{onto, anyOf}
 use Rattle.scan.specs.Lines.{isFeed, lines, lineEnd, Line-at}
 use Rattle.scan.proofs.LineLaws.{line-at, lineEnd-inside, lineEnd-after}
-use Rattle.psv_stream.specs.Run.{Later, Starved, Fronts}
+use Rattle.psv_stream.specs.Parts.{Fronts}
 use Rattle.psv_stream.specs.declared.Front.the-variants as front
 
 -- the first line of a text
-abbrev first : List ℕ → List ℕ
+abbrev pub first : List ℕ → List ℕ
 first s = headD (lines s) []
 
 first-cons : (b : ℕ) (s : List ℕ) → first (b ∷ s) ≡ cond (isFeed b) (b ∷ []) (b ∷ first s)
@@ -89,6 +89,40 @@ first-partial (x ∷ y ∷ a) p n = rw (first-cons x (y ∷ a)) (go (isFeed x) r
     go false e ih =
         let w = ih (λ h. n (rw (first-cons x (y ∷ a), e) (feed-before x (y ∷ a) (length (first (y ∷ a))) (first-some y a) h))) in
         (w .0, ap suc (w .1))
+
+-- a line is one line
+one-byte : (x : ℕ) → lines (x ∷ []) ≡ (x ∷ []) ∷ []
+unfolding lines onto
+one-byte x = go (isFeed x)
+  where
+    go : (z : Bool) → cond z ((x ∷ []) ∷ []) ((x ∷ []) ∷ []) ≡ (x ∷ []) ∷ []
+    go true = refl
+    go false = refl
+
+pub first-single : (x : ℕ) (a : List ℕ) → lines (first (x ∷ a)) ≡ first (x ∷ a) ∷ []
+unfolding lines headD onto
+first-single x [] = rw (first-cons x []) (go (isFeed x))
+  where
+    go : (z : Bool) → lines (cond z (x ∷ []) (x ∷ [])) ≡ cond z (x ∷ []) (x ∷ []) ∷ []
+    go true = one-byte x
+    go false = one-byte x
+first-single x (y ∷ a) = rw (first-cons x (y ∷ a)) (go (isFeed x) refl (first-single y a))
+  where
+    go : (z : Bool) → isFeed x ≡ z → lines (first (y ∷ a)) ≡ first (y ∷ a) ∷ []
+        → lines (cond z (x ∷ []) (x ∷ first (y ∷ a))) ≡ cond z (x ∷ []) (x ∷ first (y ∷ a)) ∷ []
+    go true e h = one-byte x
+    go false e h = rw (e, h)
+
+-- a line that another follows ends in a line feed, and stays a line in front of any text
+pub first-then : (a : List ℕ) → length (first a) < length a → (b : List ℕ) → lines (first a ++ b) ≡ first a ∷ lines b
+unfolding lines headD onto
+first-then [] h b = absurd (omega arith)
+first-then (x ∷ a) h b = rw (first-cons x a) (go (isFeed x) refl (rw (first-cons x a) at h) (λ l. first-then a l b))
+  where
+    go : (z : Bool) → isFeed x ≡ z → length (cond z (x ∷ []) (x ∷ first a)) < length (x ∷ a) → (length (first a) < length a → lines (first a ++ b) ≡ first a ∷ lines b)
+        → lines (cond z (x ∷ []) (x ∷ first a) ++ b) ≡ cond z (x ∷ []) (x ∷ first a) ∷ lines b
+    go true e l ih = rw e
+    go false e l ih = rw (e, ih (omega arith))
 
 -- the answers
 module _ (s : List ℕ) (at : ℕ) where

@@ -4,3 +4,5 @@ pub mod Lines
 pub mod Steps
 pub mod Runs
 pub mod Cuts
+pub mod Opening
+pub mod Table

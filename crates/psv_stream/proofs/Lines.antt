@@ -1,11 +1,10 @@
 -- What a line does that is not too long: the path line, a header line, a body line.
 use Prim.Native.Nat.{ℕ, _+_, _≤_, _<_}
 use mathlib.Core.Path.{_≡_, refl, sym, ap, _∙_}
-use mathlib.Core.Bool.{Bool, true, false, cond}
-use mathlib.Core.List.{List, [], _++_}
+use mathlib.Core.Bool.{false}
+use mathlib.Core.List.{List, _++_}
 use native.Mathlib.Omega.{arith}
-use native.Mathlib.Nat.{add-zero, zero-add}
-use lib.ListN.{length, take, drop}
+use lib.ListN.{take}
 use lib.IntN.{pos}
 use lib.Ieee.{Float, fin, binary64, ofBits}
 use borrow.Author.Tests.{lt-ltb, le-ltb, le-leb, lt-leb}
@@ -18,7 +17,7 @@ use Rattle.psv.specs.declared.ElementPut.{ElementPut}
 use Rattle.psv.specs.declared.ElementPut.the-variants as put
 use Rattle.plain_reader.specs.Calls.{Answer, element, end, refused}
 use Rattle.text_dump.specs.State.{turned}
-use Rattle.text_dump.specs.Open.{Opening, opened, refused as notOpened, openOf}
+use Rattle.text_dump.specs.Open.{openOf}
 use Rattle.text_dump.specs.Open.{told as toldOpened}
 use Rattle.text_dump.specs.Rules.{WithAsns}
 use Rattle.text_dump.specs.Next.{next, told, Answers}
@@ -27,9 +26,9 @@ use Rattle.text_dump.specs.declared.Opened.{Opened}
 use Rattle.text_dump.specs.declared.Opened.the-variants as opening
 use Rattle.text_dump.specs.declared.Next.{Next}
 use Rattle.text_dump.specs.declared.Next.the-variants as answer
-use Rattle.psv_stream.specs.Printed.{Stage, path, header, body, stopped, feed, refusalText, refuse, dated, scanned, answered, after, nextOf}
+use Rattle.psv_stream.specs.Printed.{path, header, body, feed, refuse, dated, scanned, answered, after, nextOf}
 use Rattle.psv_stream.specs.Printed as P
-use Rattle.psv_stream.specs.Run.{Puts, Last, Refuses, PutElement, Ends, TooLong, Does, acts}
+use Rattle.psv_stream.specs.Parts.{Puts, Refuses, PutElement, Ends, TooLong, Does, acts}
 use Rattle.psv_stream.specs.declared.Phase.{Phase}
 use Rattle.psv_stream.specs.declared.Phase.the-variants.{Path, Header, Body, Stopped}
 use Rattle.psv_stream.specs.declared.Step.{Step}

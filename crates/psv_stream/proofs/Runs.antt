@@ -1,17 +1,18 @@
 -- Lines taken one after another.
-use Prim.Native.Nat.{ℕ, suc, _+_, _-_, _≤_, _<_}
+use Prim.Native.Nat.{ℕ, _+_, _-_, _≤_, _<_}
 use mathlib.Core.Path.{_≡_, refl, sym, ap, _∙_}
 use mathlib.Core.Bool.{Bool, true, false, false≢true}
-use mathlib.Core.List.{List, [], _∷_, _++_, append-assoc, append-nil}
-use mathlib.Core.Logic.{_⊎_, inl, inr}
+use mathlib.Core.List.{List, [], _++_, append-assoc, append-nil}
+use mathlib.Core.Logic.{inl, inr}
 use native.Mathlib.Nat.{zero-add}
 use native.Mathlib.Numerals.{add-one}
 use native.Mathlib.Omega.{arith}
 use lib.ListN.{length, getD, set, take, drop, length-append, length-take, length-drop, take-append-drop, drop-of-length-le}
-use lib.Seq.{drop-drop, take-all, take-append-add, drop-append-add, getD-drop, paste, paste-zero, paste-suc, length-paste, drop-paste}
+use lib.Seq.{drop-drop, take-all, take-append-add, drop-append-add, getD-drop, paste, paste-suc, drop-paste}
 use lib.Dec.{leb}
 use borrow.Author.Tests.{le-leb, lt-leb}
-use Rattle.psv_stream.specs.Run.{come, rest, Later, Prints, Starved, Runs, Steps, keptLength, kept}
+use Rattle.psv_stream.specs.Run.{headerBytes, Prints, Runs, keptLength, kept}
+use Rattle.psv_stream.specs.Parts.{Steps}
 use Rattle.psv_stream.specs.declared.Phase.{Phase}
 use Rattle.psv_stream.specs.declared.Phase.the-variants.{Stopped}
 use Rattle.psv_stream.specs.declared.Step.{Step}
@@ -94,7 +95,7 @@ module _ (p₀ : Phase) (s : List ℕ) (ended : Bool) (out₀ : List ℕ) (p : P
       pub within : w + v ≤ length out₀
       within = omega (arith, took .2, length-drop w out, came .written, came .same)
 
-      pub fewer : length s - (c + d + come q) < length s - (c + come p)
+      pub fewer : length s - (c + d + headerBytes q) < length s - (c + headerBytes p)
       fewer = omega (arith, took .0, took .1, length-drop c s, came .consumed)
 
       pub takes : length part ≡ length room → Came p₀ s ended out₀ q (c + d) (w + v) new
@@ -152,9 +153,6 @@ module _ (bytes : List ℕ) (from end : ℕ) where
   module _ (h : from ≤ end) (l : end ≤ length bytes) where
     abbrev moved : ℕ → List ℕ
     moved i = paste bytes 0 (drop from bytes) i
-
-    pub moved-none : bytes ≡ moved 0
-    moved-none = sym (paste-zero bytes 0 (drop from bytes))
 
     module _ (new : List ℕ) (i : ℕ) (known : new ≡ moved i) where
       pub moved-next : i < end - from → set new i (getD new (from + i) 0) ≡ moved (i + 1)

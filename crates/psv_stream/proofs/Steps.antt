@@ -1,19 +1,18 @@
 -- A line taken from the front of the bytes at hand: what is printed, and what is then to come, whatever comes later.
 use Prim.Native.Nat.{ℕ, _+_, _-_, _≤_, _<_}
 use mathlib.Core.Path.{_≡_, refl, sym, ap, _∙_}
-use mathlib.Core.Bool.{Bool, true, false, cond}
+use mathlib.Core.Bool.{Bool, true, false}
 use mathlib.Core.List.{List, [], _∷_, _++_, append-nil}
-use native.Mathlib.Nat.{add-zero, zero-add}
 use native.Mathlib.Omega.{arith}
-use lib.ListN.{length, take, drop, length-append, length-take, length-drop, drop-of-length-le}
+use lib.ListN.{length, take, drop, length-append, length-take, length-drop}
 use lib.Seq.{drop-drop, drop-append-le, take-append-le, take-add}
-use lib.Dec.{ltb}
 use borrow.Author.Tests.{lt-ltb, le-ltb}
 use Rattle.scan.specs.Lines.{lines, lineEnd}
 use Rattle.scan.proofs.LineLaws.{line-at, lineEnd-inside, lineEnd-after, no-lines}
-use Rattle.psv_stream.specs.Printed.{Stage, path, header, body, stopped, refusalText, refuse, onLine, atEnd, printedFrom, after}
+use Rattle.psv_stream.specs.Printed.{header, stopped, onLine, atEnd, printedFrom}
 use Rattle.psv_stream.specs.Printed as P
-use Rattle.psv_stream.specs.Run.{come, stageOf, rest, Later, Prints, Starved, Fronts, acts, Last, Ends, longText, TooLong, Does, Steps}
+use Rattle.psv_stream.specs.Run.{headerBytes, stageOf, rest, Later}
+use Rattle.psv_stream.specs.Parts.{Fronts, acts, Last, Ends, longText, TooLong, Does, Steps}
 use Rattle.psv_stream.specs.declared.Phase.{Phase}
 use Rattle.psv_stream.specs.declared.Phase.the-variants.{Path, Header, Body, Stopped}
 use Rattle.psv_stream.specs.declared.Front.{Front}
@@ -33,7 +32,7 @@ unfolding rest
 rest-stopped s = stopped-rest (lines (drop 0 s))
 
 -- the header's lines stand among the bytes at hand, whatever comes behind these
-stage-kept : (q : Phase) (s later : List ℕ) → come q ≤ length s → stageOf q (s ++ later) ≡ stageOf q s
+stage-kept : (q : Phase) (s later : List ℕ) → headerBytes q ≤ length s → stageOf q (s ++ later) ≡ stageOf q s
 stage-kept Path s later h = refl
 stage-kept (Header t n size) s later h = rw (take-append-le size s later h)
 stage-kept (Body σ n) s later h = refl
@@ -46,8 +45,8 @@ split-take m n s h = let z : m + (n - m) ≡ n = omega arith in sym (ap (λ (k :
 fits : (e : ℕ) (s : List ℕ) → e ≤ 65536 → P.tooLong (take e s) ≡ false
 fits e s h = le-ltb 65536 (length (take e s)) (rw length-take (omega arith))
 
-acts-is : (p : Phase) (s later : List ℕ) (e : ℕ) → come p < e → e ≤ length s → e ≤ 65536
-    → onLine (stageOf p (s ++ later)) (take (e - come p) (drop (come p) s)) ≡ acts p (take e s)
+acts-is : (p : Phase) (s later : List ℕ) (e : ℕ) → headerBytes p < e → e ≤ length s → e ≤ 65536
+    → onLine (stageOf p (s ++ later)) (take (e - headerBytes p) (drop (headerBytes p) s)) ≡ acts p (take e s)
 unfolding onLine
 acts-is Path s later e h i j = let z : e - 0 ≡ e = omega arith in rw (z, fits e s j)
 acts-is (Header t n size) s later e h i j = rw (take-append-le size s later (omega arith), split-take size e s (omega arith), fits e s j)
@@ -55,16 +54,16 @@ acts-is (Body σ n) s later e h i j = let z : e - 0 ≡ e = omega arith in rw (z
 acts-is Stopped s later e h i j = refl
 
 module _ (p : Phase) (s : List ℕ) (ended : Bool) (out new : List ℕ) where
-  module _ (e : ℕ) (line : Fronts s (come p) ended (front.Line e)) where
+  module _ (e : ℕ) (line : Fronts s (headerBytes p) ended (front.Line e)) where
     line-rest : (later : List ℕ) → Later ended later → rest p (s ++ later) ≡ acts p (take e s) .0 ++ printedFrom (acts p (take e s) .1) (lines (drop e s ++ later))
     unfolding rest printedFrom
     line-rest later none = rw (line .3 later none, acts-is p s later e (line .0) (line .1) (line .2))
 
-    rest-next : (q : Phase) (c : ℕ) (later : List ℕ) → c + come q ≡ e → rest q (drop c s ++ later) ≡ printedFrom (stageOf q (drop c s)) (lines (drop e s ++ later))
+    rest-next : (q : Phase) (c : ℕ) (later : List ℕ) → c + headerBytes q ≡ e → rest q (drop c s ++ later) ≡ printedFrom (stageOf q (drop c s)) (lines (drop e s ++ later))
     unfolding rest
     rest-next q c later h =
-        let k : come q ≤ length (drop c s) = rw length-drop (omega (arith, line .1)) in
-        rw (stage-kept q (drop c s) later k, drop-append-le (come q) (drop c s) later k, drop-drop, h)
+        let k : headerBytes q ≤ length (drop c s) = rw length-drop (omega (arith, line .1)) in
+        rw (stage-kept q (drop c s) later k, drop-append-le (headerBytes q) (drop c s) later k, drop-drop, h)
 
     does-steps : (r : Step) → Does (acts p (take e s)) s e out new r → Steps p s ended out new r
     does-steps (step.Took q c w) d = (
@@ -100,7 +99,7 @@ module _ (t : List ℕ) (at : ℕ) (inside : at < length t) (long : 65536 < line
   at-length : length (take at t) ≡ at
   at-length = rw length-take (omega arith)
 
-long-on : (p : Phase) (t : List ℕ) (inside : come p < length t) (long : 65536 < lineEnd t (come p)) → onLine (stageOf p t) (longLine t (come p) inside long) ≡ (longText p, stopped)
+long-on : (p : Phase) (t : List ℕ) (inside : headerBytes p < length t) (long : 65536 < lineEnd t (headerBytes p)) → onLine (stageOf p t) (longLine t (headerBytes p) inside long) ≡ (longText p, stopped)
 unfolding onLine
 long-on Path t inside long = rw (is-long t 0 inside long [] refl)
 long-on (Header x n size) t inside long = rw (is-long t size inside long (take size t) (at-length t size inside long))
@@ -108,17 +107,17 @@ long-on (Body σ n) t inside long = rw (is-long t 0 inside long [] refl)
 long-on Stopped t inside long = refl
 
 module _ (p : Phase) (s : List ℕ) (ended : Bool) (out new : List ℕ) where
-  too-long-steps : Fronts s (come p) ended front.TooLong → (r : Step) → TooLong p out new r → Steps p s ended out new r
+  too-long-steps : Fronts s (headerBytes p) ended front.TooLong → (r : Step) → TooLong p out new r → Steps p s ended out new r
   unfolding rest printedFrom
   too-long-steps long = last-steps p s ended out new (longText p) (λ later none. is later)
     where
       is : (later : List ℕ) → rest p (s ++ later) ≡ longText p
       is later =
-          let inside : come p < length (s ++ later) = rw length-append (omega (arith, long .0)) in
-          rw (line-at (s ++ later) (come p) inside, long-on p (s ++ later) inside (long .1 later), stopped-rest (lines (drop (lineEnd (s ++ later) (come p)) (s ++ later)))) (append-nil (longText p))
+          let inside : headerBytes p < length (s ++ later) = rw length-append (omega (arith, long .0)) in
+          rw (line-at (s ++ later) (headerBytes p) inside, long-on p (s ++ later) inside (long .1 later), stopped-rest (lines (drop (lineEnd (s ++ later) (headerBytes p)) (s ++ later)))) (append-nil (longText p))
 
   -- no line
-  nothing-steps : Fronts s (come p) ended front.Nothing → (r : Step) → Ends p out new r → Steps p s ended out new r
+  nothing-steps : Fronts s (headerBytes p) ended front.Nothing → (r : Step) → Ends p out new r → Steps p s ended out new r
   unfolding rest printedFrom
   nothing-steps over = last-steps p s ended out new (atEnd (stageOf p [])) (λ later none. is later (none (over .0)))
     where
@@ -129,15 +128,15 @@ module _ (p : Phase) (s : List ℕ) (ended : Bool) (out new : List ℕ) where
       same-end Stopped t = refl
 
       is : (later : List ℕ) → later ≡ [] → rest p (s ++ later) ≡ atEnd (stageOf p [])
-      is later none = rw (none, append-nil, no-lines s (come p) (over .1)) (same-end p s)
+      is later none = rw (none, append-nil, no-lines s (headerBytes p) (over .1)) (same-end p s)
 
 -- by what line_at answers
-module _ (p : Phase) (s : List ℕ) (ended : Bool) (at : ℕ) (here : at ≡ come p) (f : Front) (known : Fronts s at ended f) where
-  here-known : Fronts s (come p) ended f
+module _ (p : Phase) (s : List ℕ) (ended : Bool) (at : ℕ) (here : at ≡ headerBytes p) (f : Front) (known : Fronts s at ended f) where
+  here-known : Fronts s (headerBytes p) ended f
   here-known = rw here at known
 
   pub line-inside : (e : ℕ) → f ≡ front.Line e → e ≤ length s
-  line-inside e g = let w : Fronts s (come p) ended (front.Line e) = rw g at here-known in w .1
+  line-inside e g = let w : Fronts s (headerBytes p) ended (front.Line e) = rw g at here-known in w .1
 
   pub starved-steps : f ≡ front.Starved → (out : List ℕ) → Steps p s ended out out step.Starved
   starved-steps g out = (refl, rw g at here-known)

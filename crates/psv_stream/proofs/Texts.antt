@@ -1,8 +1,8 @@
 -- Texts at the front of the lent list: a refusal, the PSV header, an element's line.
 use Prim.Native.Nat.{ℕ, _+_, _-_, _≤_, _<_}
 use mathlib.Core.Path.{_≡_, refl, sym, ap, _∙_}
-use mathlib.Core.Bool.{Bool, true, false, cond, _||_}
-use mathlib.Core.List.{List, [], _∷_, _++_, append-assoc}
+use mathlib.Core.Bool.{Bool, true, false, cond}
+use mathlib.Core.List.{List, [], _++_, append-assoc}
 use native.Mathlib.Nat.{zero-add}
 use native.Mathlib.Omega.{arith}
 use lib.ListN.{length, take, drop, length-append, length-take, take-append-drop}
@@ -25,8 +25,7 @@ use Rattle.psv.specs.Line.{headerText, psvText, Printed}
 use Rattle.psv.specs.declared.ElementPut.{ElementPut}
 use Rattle.psv.specs.declared.ElementPut.the-variants as put
 use Rattle.psv_stream.specs.Printed.{feed, refusalText}
-use Rattle.psv_stream.specs.Run.{Puts, Last, Refuses, PutElement}
-use Rattle.psv_stream.specs.declared.Step.{Step}
+use Rattle.psv_stream.specs.Parts.{Puts, Refuses, PutElement}
 use Rattle.psv_stream.specs.declared.Step.the-variants as step
 
 -- a writer that has room puts its text

@@ -7,7 +7,8 @@ ghost use Rattle.psv.specs.Line.{headerText};
 ghost use Rattle.timestamp.specs.Dates.{inferTimestamp};
 ghost use Rattle.text_dump.specs.Open.{openOf};
 ghost use Rattle.psv_stream.specs.Printed.{feed, dated, scanned, printedElement, answered, nextOf};
-ghost use Rattle.psv_stream.specs.Run.{come as comeOf, acts, Puts, PutElement, Refuses, Ends, TooLong, Does, Fronts, Steps, Runs, keptLength, kept};
+ghost use Rattle.psv_stream.specs.Run.{headerBytes, Runs, keptLength, kept};
+ghost use Rattle.psv_stream.specs.Parts.{acts, Puts, PutElement, Refuses, Ends, TooLong, Does, Fronts, Steps};
 use elem::Element;
 use output::Put;
 use psv::ElementPut;
@@ -223,9 +224,9 @@ fn on_line(phase: Phase, input: &[u8], end: usize, asns: &mut [u32; 16384], out:
     }
 }
 
-// How many bytes are of lines that have come.
-fn come(phase: Phase) -> usize
-    ensures { λ r. ⌜ r ≡ comeOf phase ⌝ }
+// How many of the bytes at hand are of header lines that have come.
+fn header_bytes(phase: Phase) -> usize
+    ensures { λ r. ⌜ r ≡ headerBytes phase ⌝ }
 {
     match phase {
         Phase::Path => 0,
@@ -245,7 +246,7 @@ fn take_line(
     requires { ⌜ 65537 ≤ length (now out) ⌝ }
     ensures { λ r. ⌜ Steps phase (now (input .entry)) ended (now (out .entry)) (now (out .exit)) r ⌝ }
 {
-    let front = line_at(input, come(phase), ended);
+    let front = line_at(input, header_bytes(phase), ended);
     match front {
         Front::Starved => Step::Starved,
         Front::Nothing => end(phase, out),
@@ -288,10 +289,11 @@ fn take_lines(
                 };
             }
             Step::Stops(n) => {
+                let all = written + n;
                 return Ran {
                     phase: Phase::Stopped,
                     consumed,
-                    written: written + n,
+                    written: all,
                     starved: false,
                 };
             }

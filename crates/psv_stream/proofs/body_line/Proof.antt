@@ -4,12 +4,6 @@ use Rattle.psv_stream.proofs.Lines.{passed-line, five, six, seven, elem
 use borrow.Author.Needs.{needs}
 use Rattle.psv_stream.proofs.body_line.Statement.{statement}
 use Rattle.psv_stream.proofs.body_line.Tie as tie
-use Rattle.psv_stream.proofs.body_line.Reads as reads
-use Rattle.psv_stream.proofs.body_line.Lts as lts
-use Rattle.psv_stream.proofs.element_line.Reads as element-line-reads
-use Rattle.psv_stream.proofs.refuse.Reads as refuse-reads
-use Rattle.text_dump.proofs.State.next.Reads as next-reads
-use Rattle.text_dump.proofs.State.turn.Reads as turn-reads
 
 turn-requires : tie.Need-turn-requires
 turn-requires c κs = search needs

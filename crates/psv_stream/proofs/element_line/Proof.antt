@@ -2,10 +2,6 @@ use Rattle.psv_stream.proofs.Lines.{element-printed, eight, nine}
 use borrow.Author.Needs.{needs}
 use Rattle.psv_stream.proofs.element_line.Statement.{statement}
 use Rattle.psv_stream.proofs.element_line.Tie as tie
-use Rattle.psv_stream.proofs.element_line.Reads as reads
-use Rattle.psv_stream.proofs.element_line.Lts as lts
-use Rattle.psv_stream.proofs.put_element.Reads as put-element-reads
-use Rattle.psv_stream.proofs.refuse.Reads as refuse-reads
 
 put-element-requires : tie.Need-put-element-requires
 put-element-requires c κs = search needs

@@ -2,9 +2,6 @@ use Rattle.psv_stream.proofs.Lines.{path-ends, header-ends, body-ends, 
 use borrow.Author.Needs.{needs}
 use Rattle.psv_stream.proofs.end.Statement.{statement}
 use Rattle.psv_stream.proofs.end.Tie as tie
-use Rattle.psv_stream.proofs.end.Reads as reads
-use Rattle.psv_stream.proofs.end.Lts as lts
-use Rattle.psv_stream.proofs.refuse.Reads as refuse-reads
 
 enum-told : tie.Need-enum-told
 enum-told c = search needs

@@ -4,11 +4,6 @@ use Rattle.psv_stream.proofs.Lines.{opens, no-columns-yet, no-columns, 
 use borrow.Author.Needs.{needs}
 use Rattle.psv_stream.proofs.header_line.Statement.{statement}
 use Rattle.psv_stream.proofs.header_line.Tie as tie
-use Rattle.psv_stream.proofs.header_line.Reads as reads
-use Rattle.psv_stream.proofs.header_line.Lts as lts
-use Rattle.psv_stream.proofs.put_header.Reads as put-header-reads
-use Rattle.psv_stream.proofs.refuse.Reads as refuse-reads
-use Rattle.text_dump.proofs.State.open.Reads as open-reads
 
 slice-aggregate-open : tie.Need-slice-aggregate-open
 slice-aggregate-open c = simp length-take (omega arith)

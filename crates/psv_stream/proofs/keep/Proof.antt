@@ -6,8 +6,6 @@ use borrow.Author.Needs.{needs}
 use Rattle.psv_stream.proofs.Runs.{no-part-back, no-part-inside, moved-next, moved-all}
 use Rattle.psv_stream.proofs.keep.Statement.{statement}
 use Rattle.psv_stream.proofs.keep.Tie as tie
-use Rattle.psv_stream.proofs.keep.Reads as reads
-use Rattle.psv_stream.proofs.keep.Lts as lts
 
 abbrev Inv-loop : tie.InvT-loop
 Inv-loop bytes₀ from end n i₀ bytes i = (i ≤ n) × (length bytes ≡ length bytes₀) × (bytes ≡ paste bytes₀ 0 (drop from bytes₀) i)

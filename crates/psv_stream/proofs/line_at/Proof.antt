@@ -2,9 +2,6 @@ use Rattle.psv_stream.proofs.Fronts.{none-front, no-more, line-some, li
 use borrow.Author.Needs.{needs}
 use Rattle.psv_stream.proofs.line_at.Statement.{statement}
 use Rattle.psv_stream.proofs.line_at.Tie as tie
-use Rattle.psv_stream.proofs.line_at.Reads as reads
-use Rattle.psv_stream.proofs.line_at.Lts as lts
-use Rattle.scan.proofs.line_end.Reads as line-end-reads
 
 returns : tie.Need-returns
 returns c = search none-front

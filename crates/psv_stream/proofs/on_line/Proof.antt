@@ -2,12 +2,6 @@ use Rattle.psv_stream.proofs.Lines.{on-path, on-header, on-body, on-sto
 use borrow.Author.Needs.{needs}
 use Rattle.psv_stream.proofs.on_line.Statement.{statement}
 use Rattle.psv_stream.proofs.on_line.Tie as tie
-use Rattle.psv_stream.proofs.on_line.Reads as reads
-use Rattle.psv_stream.proofs.on_line.Lts as lts
-use Rattle.psv_stream.proofs.body_line.Reads as body-line-reads
-use Rattle.psv_stream.proofs.header_line.Reads as header-line-reads
-use Rattle.psv_stream.proofs.path_line.Reads as path-line-reads
-use Rattle.std.proofs.num.wrapping_add_u64.Reads as wrapping-add-u64-reads
 
 enum-told : tie.Need-enum-told
 enum-told c = search needs

@@ -4,10 +4,6 @@ use Rattle.psv_stream.proofs.Lines.{path-dated, path-undated, path-unre
 use borrow.Author.Needs.{needs}
 use Rattle.psv_stream.proofs.path_line.Statement.{statement}
 use Rattle.psv_stream.proofs.path_line.Tie as tie
-use Rattle.psv_stream.proofs.path_line.Reads as reads
-use Rattle.psv_stream.proofs.path_line.Lts as lts
-use Rattle.psv_stream.proofs.refuse.Reads as refuse-reads
-use Rattle.timestamp.proofs.infer_timestamp_from_path.Reads as infer-timestamp-from-path-reads
 
 slice-aggregate-infer-timestamp-from-path : tie.Need-slice-aggregate-infer-timestamp-from-path
 slice-aggregate-infer-timestamp-from-path c = simp length-take (omega arith)

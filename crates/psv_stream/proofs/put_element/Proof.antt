@@ -4,10 +4,6 @@ use Rattle.psv_stream.proofs.Texts.{element-put, element-spoilt, elemen
 use borrow.Author.Needs.{needs}
 use Rattle.psv_stream.proofs.put_element.Statement.{statement}
 use Rattle.psv_stream.proofs.put_element.Tie as tie
-use Rattle.psv_stream.proofs.put_element.Reads as reads
-use Rattle.psv_stream.proofs.put_element.Lts as lts
-use Rattle.output.proofs.write_byte.Reads as write-byte-reads
-use Rattle.psv.proofs.to_psv.Reads as to-psv-reads
 
 slice-relend-prefix-to-psv : tie.Need-slice-relend-prefix-to-psv
 slice-relend-prefix-to-psv c = search needs

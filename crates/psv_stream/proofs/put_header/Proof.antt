@@ -2,10 +2,6 @@ use Rattle.psv_stream.proofs.Texts.{header-never-short, header-put}
 use borrow.Author.Needs.{needs}
 use Rattle.psv_stream.proofs.put_header.Statement.{statement}
 use Rattle.psv_stream.proofs.put_header.Tie as tie
-use Rattle.psv_stream.proofs.put_header.Reads as reads
-use Rattle.psv_stream.proofs.put_header.Lts as lts
-use Rattle.output.proofs.write_byte.Reads as write-byte-reads
-use Rattle.psv.proofs.get_psv_header.Reads as get-psv-header-reads
 
 get-psv-header-requires : tie.Need-get-psv-header-requires
 get-psv-header-requires c κs = search needs

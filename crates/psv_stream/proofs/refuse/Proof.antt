@@ -2,11 +2,6 @@ use Rattle.psv_stream.proofs.Texts.{refuses}
 use borrow.Author.Needs.{needs}
 use Rattle.psv_stream.proofs.refuse.Statement.{statement}
 use Rattle.psv_stream.proofs.refuse.Tie as tie
-use Rattle.psv_stream.proofs.refuse.Reads as reads
-use Rattle.psv_stream.proofs.refuse.Lts as lts
-use Rattle.output.proofs.write_byte.Reads as write-byte-reads
-use Rattle.output.proofs.write_bytes.Reads as write-bytes-reads
-use Rattle.decimal_display.proofs.write_u64.Reads as write-u64-reads
 
 slice-aggregate-write-bytes : tie.Need-slice-aggregate-write-bytes
 slice-aggregate-write-bytes c = search needs

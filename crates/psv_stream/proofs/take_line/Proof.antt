@@ -2,18 +2,11 @@ use Rattle.psv_stream.proofs.Steps.{line-inside, line-steps, long-steps
 use borrow.Author.Needs.{needs}
 use Rattle.psv_stream.proofs.take_line.Statement.{statement}
 use Rattle.psv_stream.proofs.take_line.Tie as tie
-use Rattle.psv_stream.proofs.take_line.Reads as reads
-use Rattle.psv_stream.proofs.take_line.Lts as lts
-use Rattle.psv_stream.proofs.come.Reads as come-reads
-use Rattle.psv_stream.proofs.end.Reads as end-reads
-use Rattle.psv_stream.proofs.line_at.Reads as line-at-reads
-use Rattle.psv_stream.proofs.on_line.Reads as on-line-reads
-use Rattle.psv_stream.proofs.too_long.Reads as too-long-reads
 
 ruleset laws = (line-inside, line-steps, long-steps, end-steps, starved-steps)
 
-come-requires : tie.Need-come-requires
-come-requires c κs = search needs
+header-bytes-requires : tie.Need-header-bytes-requires
+header-bytes-requires c κs = search needs
 
 line-at-requires : tie.Need-line-at-requires
 line-at-requires c κs = search needs
@@ -64,7 +57,7 @@ pub take-line-spec : {M : Type 1} → statement M
 take-line-spec =
     tie.close
     (tie.spec
-    come-requires
+    header-bytes-requires
     line-at-requires
     enum-told
     enum-told-2

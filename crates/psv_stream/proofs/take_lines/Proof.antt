@@ -2,13 +2,10 @@ use Prim.Native.Nat.{_+_, _-_, _≤_}
 use native.Mathlib.Omega.{arith}
 use lib.ListN.{length}
 use borrow.Author.Needs.{needs}
-use Rattle.psv_stream.specs.Run.{come}
+use Rattle.psv_stream.specs.Run.{headerBytes}
 use Rattle.psv_stream.proofs.Runs.{Came, none-yet, full, room-length, same-new, inside, within, stops-within, fewer, takes, stops, starves}
 use Rattle.psv_stream.proofs.take_lines.Statement.{statement}
 use Rattle.psv_stream.proofs.take_lines.Tie as tie
-use Rattle.psv_stream.proofs.take_lines.Reads as reads
-use Rattle.psv_stream.proofs.take_lines.Lts as lts
-use Rattle.psv_stream.proofs.take_line.Reads as take-line-reads
 
 ruleset laws = (none-yet, full, room-length, same-new, inside, within, stops-within, fewer, takes, stops, starves)
 
@@ -16,7 +13,7 @@ abbrev Inv-loop : tie.InvT-loop
 Inv-loop input ended asns₀ out₀ phase₀ consumed₀ written₀ asns out phase consumed written = Came phase₀ input ended out₀ phase consumed written out
 
 abbrev μ-loop : tie.MeasureT-loop
-μ-loop input ended asns₀ out₀ phase₀ consumed₀ written₀ asns out phase consumed written = length input - (consumed + come phase)
+μ-loop input ended asns₀ out₀ phase₀ consumed₀ written₀ asns out phase consumed written = length input - (consumed + headerBytes phase)
 
 loop-holds : tie.Need-loop-holds Inv-loop μ-loop
 loop-holds c = search none-yet
@@ -57,8 +54,8 @@ returns c = search starves
 enum-known-step : tie.Need-enum-known-step Inv-loop μ-loop
 enum-known-step c = search (laws, needs)
 
-add-t25 : tie.Need-add-t25 Inv-loop μ-loop
-add-t25 c =
+add-all : tie.Need-add-all Inv-loop μ-loop
+add-all c =
     let h : c .before .before .before .before .before .before .before .before .before .before .loop .written + c .before .step .given .0 .0 ≤ length (c .before .before .before .before .before .before .before .before .before .before .before .before .before .args .out .now) = search laws in omega (arith, h)
 
 same-length-2 : tie.Need-same-length-2 Inv-loop μ-loop
@@ -109,7 +106,7 @@ take-lines-spec =
     same-length
     returns
     enum-known-step
-    add-t25
+    add-all
     same-length-2
     returns-2
     enum-known-step-2

@@ -2,10 +2,6 @@ use Rattle.psv_stream.proofs.Lines.{path-long, header-long, body-long, 
 use borrow.Author.Needs.{needs}
 use Rattle.psv_stream.proofs.too_long.Statement.{statement}
 use Rattle.psv_stream.proofs.too_long.Tie as tie
-use Rattle.psv_stream.proofs.too_long.Reads as reads
-use Rattle.psv_stream.proofs.too_long.Lts as lts
-use Rattle.psv_stream.proofs.refuse.Reads as refuse-reads
-use Rattle.std.proofs.num.wrapping_add_u64.Reads as wrapping-add-u64-reads
 
 enum-told : tie.Need-enum-told
 enum-told c = search needs

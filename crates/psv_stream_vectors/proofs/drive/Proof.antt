@@ -3,11 +3,6 @@ use mathlib.Core.Path.{_≡_}
 use lib.ListN.{length}
 use Rattle.psv_stream_vectors.proofs.drive.Statement.{statement}
 use Rattle.psv_stream_vectors.proofs.drive.Tie as tie
-use Rattle.psv_stream_vectors.proofs.drive.Reads as reads
-use Rattle.psv_stream_vectors.proofs.drive.Lts as lts
-use Rattle.psv_stream_vectors.proofs.feed.Reads as feed-reads
-use Rattle.psv_stream_vectors.proofs.is_stopped.Reads as is-stopped-reads
-use Rattle.psv_stream_vectors.proofs.step.Reads as step-reads
 
 abbrev Inv-loop : tie.InvT-loop
 Inv-loop input piece room bytes₀ out₀ d₀ turns₀ bytes out d turns = (length bytes ≡ length bytes₀) × (length out ≡ length out₀)

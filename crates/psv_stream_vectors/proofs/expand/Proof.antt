@@ -3,12 +3,6 @@ use mathlib.Core.Path.{_≡_}
 use lib.ListN.{length}
 use Rattle.psv_stream_vectors.proofs.expand.Statement.{statement}
 use Rattle.psv_stream_vectors.proofs.expand.Tie as tie
-use Rattle.psv_stream_vectors.proofs.expand.Reads as reads
-use Rattle.psv_stream_vectors.proofs.expand.Lts as lts
-use Rattle.cases.proofs.part.Reads as part-reads
-use Rattle.psv_stream_vectors.proofs.next.Reads as next-reads
-use Rattle.psv_stream_vectors.proofs.part_end.Reads as part-end-reads
-use Rattle.psv_stream_vectors.proofs.put_part.Reads as put-part-reads
 
 abbrev Inv-loop : tie.InvT-loop
 Inv-loop s out₀ n₀ at₀ parts₀ out n at parts = length out ≡ length out₀

@@ -3,8 +3,6 @@ use Prim.Native.Nat.{_-_}
 use lib.ListN.{length}
 use Rattle.psv_stream_vectors.proofs.part_end.Statement.{statement}
 use Rattle.psv_stream_vectors.proofs.part_end.Tie as tie
-use Rattle.psv_stream_vectors.proofs.part_end.Reads as reads
-use Rattle.psv_stream_vectors.proofs.part_end.Lts as lts
 
 abbrev Inv-loop : tie.InvT-loop
 Inv-loop s at b i₀ i = Unit {0}

@@ -3,9 +3,6 @@ use mathlib.Core.Path.{_≡_}
 use lib.ListN.{length}
 use Rattle.psv_stream_vectors.proofs.put_times.Statement.{statement}
 use Rattle.psv_stream_vectors.proofs.put_times.Tie as tie
-use Rattle.psv_stream_vectors.proofs.put_times.Reads as reads
-use Rattle.psv_stream_vectors.proofs.put_times.Lts as lts
-use Rattle.cases.proofs.put.Reads as put-reads
 
 abbrev Inv-loop : tie.InvT-loop
 Inv-loop s n out₀ at k₀ left₀ out k left = length out ≡ length out₀

@@ -3,8 +3,6 @@ use lib.ListN.{length-take}
 use borrow.Author.Needs.{needs}
 use Rattle.table2psv.proofs.first.Statement.{statement}
 use Rattle.table2psv.proofs.first.Tie as tie
-use Rattle.table2psv.proofs.first.Reads as reads
-use Rattle.table2psv.proofs.first.Lts as lts
 
 slice-aggregate-result : tie.Need-slice-aggregate-result
 slice-aggregate-result c = simp length-take (omega arith)

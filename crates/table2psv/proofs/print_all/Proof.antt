@@ -3,11 +3,6 @@ use lib.ListN.{length}
 use borrow.Author.Needs.{needs}
 use Rattle.table2psv.proofs.print_all.Statement.{statement}
 use Rattle.table2psv.proofs.print_all.Tie as tie
-use Rattle.table2psv.proofs.print_all.Reads as reads
-use Rattle.table2psv.proofs.print_all.Lts as lts
-use Rattle.table2psv.proofs.is_stopped.Reads as is-stopped-reads
-use Rattle.table2psv.proofs.print.Reads as print-reads
-use Rattle.table2psv.proofs.read.Reads as read-reads
 
 abbrev Inv-loop : tie.InvT-loop
 Inv-loop input₀ out₀ t₀ turns₀ input out t turns = (length input ≡ length input₀) × (length out ≡ length out₀)
