@@ -21,6 +21,17 @@ pub token-past : (s : List ℕ) (i : ℕ) → length s ≤ i → Nothing ≡ nex
 unfolding nextToken
 token-past s i h = sym (ap (tokenAt s) (ap trimStart (drop-of-length-le s {i = i} h) ∙ skip-none isSpace [] (omega arith)))
 
+-- t is left where the token begins
+module _ (s t : List ℕ) (i : ℕ) (f : trimStart (drop i s) ≡ t) where
+  before : (take i s ++ flatten (takeWhile isSpace (chars (drop i s)))) ++ t ≡ s
+  before =
+      append-assoc (take i s) (flatten (takeWhile isSpace (chars (drop i s)))) t
+      ∙ ap (λ x. take i s ++ x) (ap (λ x. flatten (takeWhile isSpace (chars (drop i s))) ++ x) (sym f) ∙ skip-part isSpace (drop i s))
+      ∙ take-append-drop i s
+
+  at-start : drop (length s - length t) s ≡ t
+  at-start = drop-back (take i s ++ flatten (takeWhile isSpace (chars (drop i s)))) t s before
+
 module _ (s t : List ℕ) (i : ℕ) (h : i < length s) (e : t ≡ trimStart (take (length s - i) (drop i s))) where
   left : trimStart (drop i s) ≡ t
   left = ap trimStart (sym (take-all (length s - i) (drop i s) (simp length-drop (omega arith)))) ∙ sym e
@@ -36,18 +47,13 @@ module _ (s t : List ℕ) (i : ℕ) (h : i < length s) (e : t ≡ trimStart (tak
   pub rest-length : length t ≤ length s
   rest-length = omega (arith, skip-length isSpace (drop i s), ap length left, length-drop i s)
 
-  module _ (u : List ℕ) (f : u ≡ afterToken t) where
-    pub behind-length : length u ≤ length s
-    unfolding afterToken
-    behind-length = omega (arith, rest-length, ap length f, skip-length (λ p. not (isSpace p)) t)
-
-    pub token-found : (length t ≡ 0 → ⊥) → At (length s - length t) (length s - length u) ≡ nextToken s i
-    unfolding nextToken
-    token-found n = sym (ap (tokenAt s) left ∙ go t n f)
-      where
-        go : (t : List ℕ) → (length t ≡ 0 → ⊥) → u ≡ afterToken t → tokenAt s t ≡ At (length s - length t) (length s - length u)
-        go [] n f = absurd (n refl)
-        go (b ∷ t) n f = ap (λ x. At (length s - length (b ∷ t)) (length s - length x)) (sym f)
+  pub token-found : (b : ℕ) → b ≡ length s - length (afterToken (drop (length s - length t) s)) → (length t ≡ 0 → ⊥) → At (length s - length t) b ≡ nextToken s i
+  unfolding nextToken
+  token-found b f n = sym (ap (tokenAt s) left ∙ go t n (f ∙ ap (λ x. length s - length (afterToken x)) (at-start s t i left)))
+    where
+      go : (t : List ℕ) → (length t ≡ 0 → ⊥) → b ≡ length s - length (afterToken t) → tokenAt s t ≡ At (length s - length t) b
+      go [] n f = absurd (n refl)
+      go (x ∷ t) n f = ap (λ y. At (length s - length (x ∷ t)) y) (sym f)
 
 -- the walk: no token at the place i or behind it, or one from a to b and then those behind b
 pub record Walk (s : List ℕ) (i a b : ℕ) : Type 0 where
@@ -67,28 +73,19 @@ walk-end s i e = go (trimStart (drop i s)) refl e
 abbrev ink : List ℕ → Bool
 ink p = not (isSpace p)
 
--- t is left where the token begins: the token, and what is behind it
+-- the token where t begins, and what is behind it
 module _ (s t : List ℕ) (i : ℕ) (f : trimStart (drop i s) ≡ t) (n : 0 < length t) where
   abbrev word : List (List ℕ)
   word = takeWhile ink (chars t)
-
-  before : (take i s ++ flatten (takeWhile isSpace (chars (drop i s)))) ++ t ≡ s
-  before =
-      append-assoc (take i s) (flatten (takeWhile isSpace (chars (drop i s)))) t
-      ∙ ap (λ x. take i s ++ x) (ap (λ x. flatten (takeWhile isSpace (chars (drop i s))) ++ x) (sym f) ∙ skip-part isSpace (drop i s))
-      ∙ take-append-drop i s
 
   here : flatten word ++ afterToken t ≡ t
   unfolding afterToken
   here = skip-part ink t
 
-  at-start : drop (length s - length t) s ≡ t
-  at-start = drop-back (take i s ++ flatten (takeWhile isSpace (chars (drop i s)))) t s before
-
   at-stop : drop (length s - length (afterToken t)) s ≡ afterToken t
   at-stop =
       drop-back ((take i s ++ flatten (takeWhile isSpace (chars (drop i s)))) ++ flatten word) (afterToken t) s
-      (append-assoc (take i s ++ flatten (takeWhile isSpace (chars (drop i s)))) (flatten word) (afterToken t) ∙ ap (λ x. (take i s ++ flatten (takeWhile isSpace (chars (drop i s)))) ++ x) here ∙ before)
+      (append-assoc (take i s ++ flatten (takeWhile isSpace (chars (drop i s)))) (flatten word) (afterToken t) ∙ ap (λ x. (take i s ++ flatten (takeWhile isSpace (chars (drop i s)))) ++ x) here ∙ before s t i f)
 
   first-char : dropWhile isSpace (chars (drop i s)) ≡ take (pieceLen t) t ∷ chars (drop (pieceLen t) t)
   first-char = sym (chars-skip isSpace (drop i s)) ∙ ap chars f ∙ chars-more t n
@@ -111,7 +108,7 @@ module _ (s t : List ℕ) (i : ℕ) (f : trimStart (drop i s) ≡ t) (n : 0 < le
       let l : length t ≤ length s - i = omega (arith, ap length f, skip-length isSpace (drop i s), length-drop i s) in
       let m : length (flatten word) + length (afterToken t) ≡ length t = sym (length-append (flatten word) (afterToken t)) ∙ ap length here in
       let w : take (b - a) (drop a s) ≡ flatten word =
-      ap (take (b - a)) (ap (λ k. drop k s) ea ∙ at-start ∙ sym here) ∙ take-at (flatten word) (afterToken t) (b - a) (omega arith) in
+      ap (take (b - a)) (ap (λ k. drop k s) ea ∙ at-start s t i f ∙ sym here) ∙ take-at (flatten word) (afterToken t) (b - a) (omega arith) in
       let v : drop b s ≡ afterToken t = ap (λ k. drop k s) eb ∙ at-stop in
       record {
         from = omega arith;

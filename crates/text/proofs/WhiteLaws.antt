@@ -1,18 +1,18 @@
 -- Laws of white space, as the functions meet it.
 use mathlib.Core.Path.{_≡_, refl, sym, ap, _∙_}
 use mathlib.Core.List.{List, [], _∷_, _++_, append-nil, flatten, reverse, reverse-cons, reverse-append, reverse-reverse}
-use mathlib.Core.Bool.{Bool, true, false, cond, not, _&&_, and-false}
+use mathlib.Core.Bool.{Bool, true, false, cond, not, _&&_, _||_, and-false}
 use mathlib.Core.Logic.{_⊎_, inl, inr, ⊎-elim}
 use Prim.Native.Nat.{ℕ, suc, _+_, _-_, _*_, _%_, _≤_, _<_, max}
 use native.Mathlib.Omega.{arith}
-use lib.Dec.{ltb}
-use lib.ListN.{length, getD, take, drop, length-append, length-take, length-drop, take-append-drop, drop-of-length-le}
+use lib.Dec.{ltb, eqb}
+use lib.ListN.{length, getD, take, drop, length-append, length-drop, take-append-drop, drop-of-length-le}
 use lib.Seq.{take-all, drop-cons, length-take-le, take-at, drop-at}
-use borrow.Author.Tests.{le-leb, lt-leb, lt-ltb, ne-eqb, ltb-true}
+use borrow.Author.Tests.{le-leb, lt-leb, lt-ltb, ne-eqb, eqb-true, ltb-true}
 use Rattle.scan.specs.Lists.{dropWhile}
 use Rattle.utf8.specs.Utf8.{within, charLen, pieceLen, charsFrom, chars, isChar, codePoint, encode}
 use Rattle.text.specs.White.{isWhite, isSpace, skip, trimStart, trimEnd, afterToken, whiteLen}
-use Rattle.utf8.proofs.TestLaws.{both, in-range, upto}
+use Rattle.utf8.proofs.TestLaws.{both, either, in-range, upto}
 use Rattle.utf8.proofs.CharLaws.{Begins, char-begins, char-le, char-one, wide-cases, piece-pos, piece-le}
 use Rattle.utf8.proofs.ListLaws.{flatten-append}
 use Rattle.utf8.proofs.CharsLaws.{First, chars-first, chars-front, chars-more, char-piece, chars-append, chars-of-front, chars-of-rest, flatten-chars}
@@ -166,13 +166,27 @@ visible-white b v =
       and-false,
     )
 
+-- a space is white, and a line feed is
 space-white : (b : ℕ) → b ≡ 0x20 → isWhite b ≡ true
 unfolding isWhite
 space-white b e = rw e refl
 
+feed-white : (b : ℕ) → b ≡ 0x0A → isWhite b ≡ true
+unfolding isWhite
+feed-white b e = rw e refl
+
+pub gap-ascii : (b : ℕ) → (eqb b 0x20 || eqb b 0x0A) ≡ true → b < 0x80
+gap-ascii b g = ⊎-elim (λ e. omega (arith, eqb-true b 0x20 e)) (λ e. omega (arith, eqb-true b 0x0A e)) (either (eqb b 0x20) (eqb b 0x0A) g)
+
+pub gap-white : (b : ℕ) → (eqb b 0x20 || eqb b 0x0A) ≡ true → isWhite b ≡ true
+gap-white b g = ⊎-elim (λ e. space-white b (eqb-true b 0x20 e)) (λ e. feed-white b (eqb-true b 0x0A e)) (either (eqb b 0x20) (eqb b 0x0A) g)
+
 module _ (t : List ℕ) (h : 0 < length t) where
+  front-white : getD t 0 0 < 0x80 → isWhite (getD t 0 0) ≡ true → 1 ≡ whiteLen (chars t)
+  front-white l w = one-yes t (λ z. omega arith) l (isWhite (getD t 0 0)) refl w
+
   pub front-space : getD t 0 0 ≡ 0x20 → 1 ≡ whiteLen (chars t)
-  front-space e = one-yes t (λ z. omega arith) (omega arith) (isWhite (getD t 0 0)) refl (space-white (getD t 0 0) e)
+  front-space e = front-white (omega arith) (space-white (getD t 0 0) e)
 
   pub front-visible : within 0x21 0x7E (getD t 0 0) ≡ true → 0 ≡ whiteLen (chars t)
   front-visible v = one-no t (λ z. omega arith) (omega (arith, in-range 0x21 0x7E (getD t 0 0) v .1)) (isWhite (getD t 0 0)) refl (visible-white (getD t 0 0) v)
@@ -223,44 +237,50 @@ module _ (t : List ℕ) (k : ℕ) (e : k ≡ whiteLen (chars t)) where
       go true f g = absurd (omega (arith, piece-pos t))
       go false f g = f
 
-  -- trim_start
   pub white-within : k ≤ length t
   white-within = upto k 0 (λ h. omega arith) (λ h. let n : k ≡ 0 → ⊥ = λ z. omega arith in omega (arith, is-space n .1, piece-le t (some n)))
 
-  pub start-less : (k ≡ 0 → ⊥) → length (take (length t - k) (drop k t)) < length t
-  start-less n = simp (length-take, length-drop) (omega (arith, white-within))
+  -- trim_start
+  pub start-stop : k ≡ 0 → trimStart t ≡ t
+  start-stop z = upto (length t) 0 (skip-none isSpace t) (λ h. skip-here isSpace t h (not-space h z))
 
-  module _ (s : List ℕ) (i : trimStart s ≡ trimStart t) where
-    pub start-stop : k ≡ 0 → t ≡ trimStart s
-    start-stop z = sym (i ∙ upto (length t) 0 (skip-none isSpace t) (λ h. skip-here isSpace t h (not-space h z)))
+  pub start-more : (k ≡ 0 → ⊥) → trimStart t ≡ trimStart (drop k t)
+  start-more n = skip-more isSpace t (some n) (is-space n .0) ∙ ap (λ m. trimStart (drop m t)) (sym (is-space n .1))
 
-    pub start-more : (k ≡ 0 → ⊥) → trimStart s ≡ trimStart (take (length t - k) (drop k t))
-    start-more n =
-        i ∙ skip-more isSpace t (some n) (is-space n .0)
-        ∙ ap trimStart (ap (λ m. drop m t) (sym (is-space n .1)) ∙ sym (take-all (length t - k) (drop k t) (simp length-drop (omega arith))))
+  -- ink_len
+  pub ink-none : (k ≡ 0 → ⊥) → 0 ≡ pieceLen t - whiteLen (chars t)
+  ink-none n = omega (arith, e, is-space n .1)
 
-  -- skip_token
-  module _ (s : List ℕ) (i : afterToken s ≡ afterToken t) (h : 0 < length t) where
-    pub token-stop : 0 < k → t ≡ afterToken s
-    unfolding afterToken
-    token-stop n = sym (i ∙ skip-here _ t h (ap not (is-space (λ z. omega arith) .0)))
+  pub ink-some : (m : ℕ) → k ≡ 0 → m ≡ pieceLen t → m ≡ pieceLen t - whiteLen (chars t)
+  ink-some m z f = omega (arith, e)
 
-    pub token-more : (m : ℕ) → k ≤ 0 → m ≡ pieceLen t → afterToken s ≡ afterToken (take (length t - m) (drop m t))
-    unfolding afterToken
-    token-more m z f =
-        i ∙ skip-more _ t h (ap not (not-space h (omega arith)))
-        ∙ ap afterToken (ap (λ m. drop m t) (sym f) ∙ sym (take-all (length t - m) (drop m t) (simp length-drop (omega arith))))
+  -- token_end
+  pub token-stop : (k ≡ 0 → ⊥) → afterToken t ≡ t
+  unfolding afterToken
+  token-stop n = skip-here _ t (some n) (ap not (is-space n .0))
 
-pub token-end : (s t : List ℕ) → afterToken s ≡ afterToken t → length t ≤ 0 → t ≡ afterToken s
+  token-more : 0 < length t → k ≡ 0 → afterToken t ≡ afterToken (drop (pieceLen t) t)
+  unfolding afterToken
+  token-more h z = skip-more _ t h (ap not (not-space h z))
+
+-- k bytes at the front of t of a character that is not white
+module _ (t : List ℕ) (k : ℕ) (e : k ≡ pieceLen t - whiteLen (chars t)) where
+  pub ink-stop : k ≡ 0 → afterToken t ≡ t
+  ink-stop z = token-stop t (whiteLen (chars t)) refl (λ w. omega (arith, piece-pos t))
+
+  module _ (h : 0 < length t) (n : k ≡ 0 → ⊥) where
+    no-white : whiteLen (chars t) ≡ 0
+    no-white = upto (whiteLen (chars t)) 0 (λ l. omega arith) (λ l. absurd (n (omega (arith, is-space t (whiteLen (chars t)) refl (λ z. omega arith) .1))))
+
+    pub ink-size : k ≡ pieceLen t
+    ink-size = omega (arith, no-white)
+
+    pub ink-more : afterToken t ≡ afterToken (drop k t)
+    ink-more = token-more t (whiteLen (chars t)) refl h no-white ∙ ap (λ m. afterToken (drop m t)) (sym ink-size)
+
+pub token-none : (t : List ℕ) → length t ≤ 0 → afterToken t ≡ t
 unfolding afterToken
-token-end s t i h = sym (i ∙ skip-none _ t h)
-
-module _ (t : List ℕ) (h : 0 < length t) (m : ℕ) (f : m ≡ pieceLen t) where
-  pub piece-within : m ≤ length t
-  piece-within = rw f (piece-le t h)
-
-  pub piece-less : length (take (length t - m) (drop m t)) < length t
-  piece-less = simp (length-take, length-drop) (omega (arith, piece-within, piece-pos t))
+token-none t h = skip-none _ t h
 
 -- the part behind x
 pub drop-back : (x p t : List ℕ) → x ++ p ≡ t → drop (length t - length p) t ≡ p
@@ -335,18 +355,11 @@ module _ (t : List ℕ) (k : ℕ) (e : k ≡ whiteLen (reverse (chars t))) where
   pub white-end-within : k ≤ length t
   white-end-within = ⊎-elim (λ x. omega (arith, x .size)) (λ x. x .fits) at-end
 
-  pub end-less : (k ≡ 0 → ⊥) → length (take (length t - k) t) < length t
-  end-less n = simp length-take (omega (arith, white-end-within))
+  pub end-stop : k ≡ 0 → trimEnd t ≡ t
+  end-stop z = ⊎-elim (λ x. x .same) (λ x. absurd (omega (arith, x .some-byte))) at-end
 
-  pub count-back : length (take (length t - k) t) ≡ length t - k
-  count-back = simp length-take (omega arith)
-
-  module _ (s : List ℕ) (i : trimEnd s ≡ trimEnd t) where
-    pub end-stop : k ≡ 0 → t ≡ trimEnd s
-    end-stop z = ⊎-elim (λ x. sym (i ∙ x .same)) (λ x. absurd (omega (arith, x .some-byte))) at-end
-
-    pub end-more : (k ≡ 0 → ⊥) → trimEnd s ≡ trimEnd (take (length t - k) t)
-    end-more n = ⊎-elim (λ x. absurd (n (x .size))) (λ x. i ∙ x .less) at-end
+  pub end-more : (k ≡ 0 → ⊥) → trimEnd t ≡ trimEnd (take (length t - k) t)
+  end-more n = ⊎-elim (λ x. absurd (n (x .size))) (λ x. x .less) at-end
 
 -- white_end
 pub end-empty : (s : List ℕ) (n : ℕ) → n ≡ length s → n ≡ 0 → 0 ≡ whiteLen (reverse (chars s))
@@ -439,51 +452,26 @@ end-none s l₂ l₃ w₂ w₃ n h e₂ f₂ n₂ e₃ f₃ n₃ = go (reverse (
     go [] f = refl
     go (p ∷ m) f = by p m f (isSpace p) refl
 
--- the loops' quick ways: a space, or a visible ASCII character
-module _ (s t : List ℕ) (h : 0 < length t) where
-  module _ (i : trimStart s ≡ trimStart t) where
-    pub start-space : getD t 0 0 ≡ 0x20 → trimStart s ≡ trimStart (take (length t - 1) (drop 1 t))
-    start-space e = start-more t 1 (front-space t h e) s i (λ z. omega arith)
+-- the last byte by itself
+module _ (t : List ℕ) (h : 0 < length t) where
+  back : (k : ℕ) → getD t (length t - 1) 0 < 0x80 → k ≡ whiteLen (chars (drop (length t - 1) t)) → k ≡ whiteLen (reverse (chars t))
+  back k l e = end-ascii t (drop (length t - 1) t) k (λ z. omega arith) l refl e
 
-    pub start-visible : within 0x21 0x7E (getD t 0 0) ≡ true → t ≡ trimStart s
-    start-visible v = start-stop t 0 (front-visible t h v) s i refl
+  byte : getD (drop (length t - 1) t) 0 0 ≡ getD t (length t - 1) 0
+  byte = ap (λ x. getD x 0 0) (last-byte t h)
 
-  pub token-visible : afterToken s ≡ afterToken t → within 0x21 0x7E (getD t 0 0) ≡ true → afterToken s ≡ afterToken (take (length t - 1) (drop 1 t))
-  token-visible i v =
-      token-more t 0 (front-visible t h v) s i h 1 (omega arith)
-      (omega (arith, char-one t (λ z. omega arith) (omega (arith, in-range 0x21 0x7E (getD t 0 0) v .1))))
+  some-left : 0 < length (drop (length t - 1) t)
+  some-left = simp length-drop (omega arith)
 
-  module _ (i : trimEnd s ≡ trimEnd t) where
-    -- the last byte by itself
-    back : (k : ℕ) → getD t (length t - 1) 0 < 0x80 → k ≡ whiteLen (chars (drop (length t - 1) t)) → k ≡ whiteLen (reverse (chars t))
-    back k l e = end-ascii t (drop (length t - 1) t) k (λ z. omega arith) l refl e
+  pub back-white : getD t (length t - 1) 0 < 0x80 → isWhite (getD t (length t - 1) 0) ≡ true → 1 ≡ whiteLen (reverse (chars t))
+  back-white l w = back 1 l (front-white (drop (length t - 1) t) some-left (omega (arith, byte)) (ap isWhite byte ∙ w))
 
-    byte : getD (drop (length t - 1) t) 0 0 ≡ getD t (length t - 1) 0
-    byte = ap (λ x. getD x 0 0) (last-byte t h)
+  pub back-visible : within 0x21 0x7E (getD t (length t - 1) 0) ≡ true → 0 ≡ whiteLen (reverse (chars t))
+  back-visible v =
+      back 0 (omega (arith, in-range 0x21 0x7E (getD t (length t - 1) 0) v .1))
+      (front-visible (drop (length t - 1) t) some-left (ap (within 0x21 0x7E) byte ∙ v))
 
-    some-left : 0 < length (drop (length t - 1) t)
-    some-left = simp length-drop (omega arith)
-
-    pub end-space : getD t (length t - 1) 0 ≡ 0x20 → trimEnd s ≡ trimEnd (take (length t - 1) t)
-    end-space e = end-more t 1 (back 1 (omega arith) (front-space (drop (length t - 1) t) some-left (byte ∙ e))) s i (λ z. omega arith)
-
-    pub end-visible : within 0x21 0x7E (getD t (length t - 1) 0) ≡ true → t ≡ trimEnd s
-    end-visible v =
-        end-stop t 0
-        (back 0 (omega (arith, in-range 0x21 0x7E (getD t (length t - 1) 0) v .1))
-        (front-visible (drop (length t - 1) t) some-left (ap (within 0x21 0x7E) byte ∙ v)))
-        s i refl
-
-pub start-end : (s t : List ℕ) → trimStart s ≡ trimStart t → length t ≤ 0 → t ≡ trimStart s
-start-end s t i h = sym (i ∙ skip-none isSpace t h)
-
-pub end-end : (s t : List ℕ) → trimEnd s ≡ trimEnd t → length t ≤ 0 → t ≡ trimEnd s
+pub end-end : (t : List ℕ) → length t ≤ 0 → trimEnd t ≡ t
 unfolding trimEnd charsFrom dropWhile flatten
-end-end s [] i h = sym i
-end-end s (b ∷ t) i h = absurd (omega arith)
-
-pub count-front : (t : List ℕ) → length (take (length t - 1) t) ≡ length t - 1
-count-front t = simp length-take (omega arith)
-
-pub less-front : (t : List ℕ) → 0 < length t → length (take (length t - 1) t) < length t
-less-front t h = simp length-take (omega arith)
+end-end [] h = refl
+end-end (b ∷ t) h = absurd (omega arith)

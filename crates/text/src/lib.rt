@@ -101,52 +101,51 @@ fn white_end(s: &[u8]) -> usize
     0
 }
 
-// What is left behind the white space at the front. Spaces and visible ASCII, which are nearly all, are told apart in the loop itself.
+// What is left behind the white space at the front. Spaces and visible ASCII, which are nearly all, are told apart in the loop itself; the place moves
+// and the slice stays as it is, since one that is cut anew at each turn goes through memory.
 pub fn trim_start(s: &[u8]) -> &[u8]
     ensures { λ r. ⌜ now r ≡ trimStart (now (s .entry)) ⌝ }
 {
-    let mut t = s;
-    while 0 < t.len() {
-        let b = t[0];
-        if b == 0x20 {
-            t = &t[1..];
+    let mut i = 0;
+    while i < s.len() {
+        let first = s[i];
+        if first == 0x20 {
+            i += 1;
             continue;
         }
-        if (0x21 <= b) & (b <= 0x7E) {
-            return t;
+        if (0x21 <= first) & (first <= 0x7E) {
+            return &s[i..];
         }
-        let k = white(t);
+        let k = white(&s[i..]);
         if k == 0 {
-            return t;
+            return &s[i..];
         }
-        t = &t[k..];
+        i += k;
     }
-    t
+    &s[i..]
 }
 
-// What is left in front of the white space at the end.
+// What is left in front of the white space at the end. Every line ends with a line feed, so the loop tells this too.
 pub fn trim_end(s: &[u8]) -> &[u8]
     ensures { λ r. ⌜ now r ≡ trimEnd (now (s .entry)) ⌝ }
 {
-    let mut t = s;
-    while 0 < t.len() {
-        let last = t.len() - 1;
-        let b = t[last];
-        if b == 0x20 {
-            t = &t[..last];
+    let mut n = s.len();
+    while 0 < n {
+        let last = s[n - 1];
+        if (last == 0x20) | (last == 0x0A) {
+            n -= 1;
             continue;
         }
-        if (0x21 <= b) & (b <= 0x7E) {
-            return t;
+        if (0x21 <= last) & (last <= 0x7E) {
+            return &s[..n];
         }
-        let k = white_end(t);
+        let k = white_end(&s[..n]);
         if k == 0 {
-            return t;
+            return &s[..n];
         }
-        let n = t.len() - k;
-        t = &t[..n];
+        n -= k;
     }
-    t
+    &s[..n]
 }
 
 // What is left between the white space at both ends.
@@ -171,25 +170,35 @@ fn piece_len(s: &[u8]) -> usize
     if k == 0 { 1 } else { k }
 }
 
-// What is left behind the characters at the front that are not white.
-fn skip_token(s: &[u8]) -> &[u8]
-    ensures { λ r. ⌜ now r ≡ afterToken (now (s .entry)) ⌝ }
+// The same where that is not white, else 0.
+fn ink_len(s: &[u8]) -> usize
+    ensures { λ r. ⌜ r ≡ pieceLen (now (s .entry)) - whiteLen (chars (now (s .entry))) ⌝ }
 {
-    let mut rest = s;
-    while 0 < rest.len() {
-        let b = rest[0];
-        if (0x21 <= b) & (b <= 0x7E) {
-            rest = &rest[1..];
+    if white(s) == 0 { piece_len(s) } else { 0 }
+}
+
+// Where the characters from the place `at` on that are not white end. A space, which ends nearly every token, is told in the loop itself.
+fn token_end(s: &[u8], at: usize) -> usize
+    requires { ⌜ at ≤ length (now s) ⌝ }
+    ensures { λ r. ⌜ r ≡ length (now (s .entry)) - length (afterToken (drop at (now (s .entry)))) ⌝ }
+{
+    let mut end = at;
+    while end < s.len() {
+        let next = s[end];
+        if (0x21 <= next) & (next <= 0x7E) {
+            end += 1;
             continue;
         }
-        let w = white(rest);
-        if 0 < w {
-            return rest;
+        if next == 0x20 {
+            return end;
         }
-        let k = piece_len(rest);
-        rest = &rest[k..];
+        let k = ink_len(&s[end..]);
+        if k == 0 {
+            return end;
+        }
+        end += k;
     }
-    rest
+    end
 }
 
 // The next token at the place `at` or behind it.
@@ -203,6 +212,6 @@ pub fn next_token(s: &[u8], at: usize) -> Token
     if rest.len() == 0 {
         return Token::Nothing;
     }
-    let behind = skip_token(rest);
-    Token::At(s.len() - rest.len(), s.len() - behind.len())
+    let start = s.len() - rest.len();
+    Token::At(start, token_end(s, start))
 }

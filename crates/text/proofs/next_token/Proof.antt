@@ -1,9 +1,13 @@
-use Rattle.text.proofs.TokenLaws.{token-past, token-none, rest-length, behind-length, token-found}
+use Rattle.text.proofs.TokenLaws.{token-past, token-none, rest-length, token-found}
 use borrow.Author.Needs.{needs}
 use Rattle.text.proofs.next_token.Statement.{statement}
 use Rattle.text.proofs.next_token.Tie as tie
+use Rattle.text.proofs.next_token.Reads as reads
+use Rattle.text.proofs.next_token.Lts as lts
+use Rattle.text.proofs.token_end.Reads as token-end-reads
+use Rattle.text.proofs.trim_start.Reads as trim-start-reads
 
-ruleset laws = (token-past, token-none, rest-length, behind-length, token-found)
+ruleset laws = (token-past, token-none, rest-length, token-found)
 
 returns : tie.Need-returns
 returns c = search (laws, needs)
@@ -18,19 +22,16 @@ part-trim-start-end : tie.Need-part-trim-start-end
 part-trim-start-end c = search (laws, needs)
 
 trim-start-requires : tie.Need-trim-start-requires
-trim-start-requires c κs = search needs
+trim-start-requires c κs = search (laws, needs)
 
 returns-2 : tie.Need-returns-2
 returns-2 c = search (laws, needs)
 
-skip-token-requires : tie.Need-skip-token-requires
-skip-token-requires c κs = search needs
+sub-start : tie.Need-sub-start
+sub-start c = search (laws, needs)
 
-sub-t11 : tie.Need-sub-t11
-sub-t11 c = search (laws, needs)
-
-sub-t14 : tie.Need-sub-t14
-sub-t14 c = search (laws, needs)
+token-end-requires : tie.Need-token-end-requires
+token-end-requires c κs = search (laws, needs)
 
 returns-3 : tie.Need-returns-3
 returns-3 c = search (laws, needs)
@@ -45,7 +46,6 @@ next-token-spec =
     part-trim-start-end
     trim-start-requires
     returns-2
-    skip-token-requires
-    sub-t11
-    sub-t14
+    sub-start
+    token-end-requires
     returns-3)

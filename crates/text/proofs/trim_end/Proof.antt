@@ -1,30 +1,35 @@
 use mathlib.Core.Path.{_≡_}
-use lib.ListN.{length}
+use Prim.Native.Nat.{_≤_}
+use lib.ListN.{length, take}
+use lib.Seq.{length-take-le}
 use Rattle.text.specs.White.{trimEnd}
-use Rattle.text.proofs.WhiteLaws.{white-end-within, count-back, count-front, less-front, end-less, end-stop, end-more, end-space, end-visible, end-end}
+use Rattle.text.proofs.PlaceLaws.{all-in-front, less-in-front, white-end-inside, gap-end-passed, visible-end-kept, nothing-end-kept, white-end-kept, white-end-passed}
 use Rattle.text.proofs.trim_end.Statement.{statement}
 use Rattle.text.proofs.trim_end.Tie as tie
+use Rattle.text.proofs.trim_end.Reads as reads
+use Rattle.text.proofs.trim_end.Lts as lts
+use Rattle.text.proofs.white_end.Reads as white-end-reads
 use borrow.Author.Needs.{needs}
 
-ruleset laws = (white-end-within, count-back, count-front, less-front, end-less, end-stop, end-more, end-space, end-visible, end-end)
+ruleset laws = (length-take-le, all-in-front, less-in-front, white-end-inside, gap-end-passed, visible-end-kept, nothing-end-kept, white-end-kept, white-end-passed)
 
 abbrev Inv-loop : tie.InvT-loop
-Inv-loop s t₀ t = trimEnd s ≡ trimEnd t
+Inv-loop s n₀ n = (n ≤ length s) × (trimEnd s ≡ trimEnd (take n s))
 
 abbrev μ-loop : tie.MeasureT-loop
-μ-loop s t₀ t = length t
+μ-loop s n₀ n = n
 
 loop-holds : tie.Need-loop-holds Inv-loop μ-loop
-loop-holds c = search needs
+loop-holds c = search (laws, needs)
 
 sub-last : tie.Need-sub-last Inv-loop μ-loop
 sub-last c = search (laws, needs)
 
-shared-slice-read-b : tie.Need-shared-slice-read-b Inv-loop μ-loop
-shared-slice-read-b c = search needs
+shared-slice-read-last : tie.Need-shared-slice-read-last Inv-loop μ-loop
+shared-slice-read-last c = search (laws, needs)
 
-slice-aggregate-t : tie.Need-slice-aggregate-t Inv-loop μ-loop
-slice-aggregate-t c = search (laws, needs)
+sub-n : tie.Need-sub-n Inv-loop μ-loop
+sub-n c = search (laws, needs)
 
 loop-less : tie.Need-loop-less Inv-loop μ-loop
 loop-less c = search (laws, needs)
@@ -32,26 +37,35 @@ loop-less c = search (laws, needs)
 loop-again : tie.Need-loop-again Inv-loop μ-loop
 loop-again c = search (laws, needs)
 
+slice-aggregate-result : tie.Need-slice-aggregate-result Inv-loop μ-loop
+slice-aggregate-result c = search (laws, needs)
+
 returns : tie.Need-returns Inv-loop μ-loop
 returns c = search (laws, needs)
+
+slice-aggregate-white-end : tie.Need-slice-aggregate-white-end Inv-loop μ-loop
+slice-aggregate-white-end c = search (laws, needs)
 
 white-end-requires : tie.Need-white-end-requires Inv-loop μ-loop
 white-end-requires c κs = search (laws, needs)
 
+slice-aggregate-result-2 : tie.Need-slice-aggregate-result-2 Inv-loop μ-loop
+slice-aggregate-result-2 c = search (laws, needs)
+
 returns-2 : tie.Need-returns-2 Inv-loop μ-loop
 returns-2 c = search (laws, needs)
 
-sub-n : tie.Need-sub-n Inv-loop μ-loop
-sub-n c = search (laws, needs)
-
-slice-aggregate-t-2 : tie.Need-slice-aggregate-t-2 Inv-loop μ-loop
-slice-aggregate-t-2 c = search (laws, needs)
+sub-n-2 : tie.Need-sub-n-2 Inv-loop μ-loop
+sub-n-2 c = search (laws, needs)
 
 loop-less-2 : tie.Need-loop-less-2 Inv-loop μ-loop
 loop-less-2 c = search (laws, needs)
 
 loop-again-2 : tie.Need-loop-again-2 Inv-loop μ-loop
 loop-again-2 c = search (laws, needs)
+
+slice-aggregate-result-3 : tie.Need-slice-aggregate-result-3 Inv-loop μ-loop
+slice-aggregate-result-3 c = search (laws, needs)
 
 returns-3 : tie.Need-returns-3 Inv-loop μ-loop
 returns-3 c = search (laws, needs)
@@ -64,15 +78,18 @@ trim-end-spec =
     μ-loop
     loop-holds
     sub-last
-    shared-slice-read-b
-    slice-aggregate-t
+    shared-slice-read-last
+    sub-n
     loop-less
     loop-again
+    slice-aggregate-result
     returns
+    slice-aggregate-white-end
     white-end-requires
+    slice-aggregate-result-2
     returns-2
-    sub-n
-    slice-aggregate-t-2
+    sub-n-2
     loop-less-2
     loop-again-2
+    slice-aggregate-result-3
     returns-3)
