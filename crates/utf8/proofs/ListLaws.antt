@@ -1,10 +1,12 @@
 -- Laws of lists whose elements all pass a test, and of lists whose elements are mapped.
 use mathlib.Core.Path.{_≡_, refl, sym, ap, _∙_}
 use mathlib.Core.List.{List, [], _∷_, _++_, append-assoc, map, flatten}
-use mathlib.Core.Bool.{Bool, true, _&&_, and-assoc}
-use Prim.Native.Nat.{ℕ, zero, suc, _<_}
+use mathlib.Core.Bool.{Bool, true, _&&_, and-assoc, and-true}
+use Prim.Native.Nat.{ℕ, zero, suc, _+_, _<_}
 use native.Mathlib.Omega.{arith}
-use lib.ListN.{length, getD, take}
+use native.Mathlib.Numerals.{add-one}
+use lib.ListN.{length, getD, take, drop, take-append-drop}
+use lib.Seq.{take-suc, take-add}
 use Rattle.utf8.specs.Utf8.{all}
 use Rattle.utf8.proofs.TestLaws.{both}
 
@@ -21,6 +23,17 @@ module _ {A : Type 0} (p : A → Bool) where
 
   pub all-parts : (l m : List A) → all p (l ++ m) ≡ true → (all p l ≡ true) × (all p m ≡ true)
   all-parts l m e = both (all p l) (all p m) (sym (all-append l m) ∙ e)
+
+  -- one element more, and some
+  pub all-next : (l : List A) (i : ℕ) (d : A) → i < length l → all p (take (i + 1) l) ≡ (all p (take i l) && p (getD l i d))
+  unfolding all
+  all-next l i d h = rw (add-one, take-suc l i d h, all-append) (rw and-true)
+
+  pub all-more : (l : List A) (i n : ℕ) → all p (take (i + n) l) ≡ (all p (take i l) && all p (take n (drop i l)))
+  all-more l i n = rw take-add (all-append (take i l) (take n (drop i l)))
+
+  pub all-split : (l : List A) (i : ℕ) → all p l ≡ (all p (take i l) && all p (drop i l))
+  all-split l i = ap (all p) (sym (take-append-drop i l)) ∙ all-append (take i l) (drop i l)
 
   pub all-at : (l : List A) (i : ℕ) (d : A) → all p l ≡ true → i < length l → p (getD l i d) ≡ true
   unfolding all

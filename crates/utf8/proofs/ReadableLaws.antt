@@ -1,18 +1,16 @@
 -- Laws of readable text, as the loops meet it.
 use mathlib.Core.Path.{_≡_, refl, sym, ap, _∙_}
 use mathlib.Core.List.{List, [], _∷_, _++_, flatten}
-use mathlib.Core.Bool.{Bool, true, false, _&&_, and-true, and-assoc}
+use mathlib.Core.Bool.{Bool, true, false, not, _&&_, and-false}
 use Prim.Native.Nat.{ℕ, _+_, _-_, _≤_, _<_, max}
 use native.Mathlib.Omega.{arith}
-use native.Mathlib.Numerals.{add-one}
-use lib.Bits.{bitOr, or-lt, or-add-and, and-le-l, and-le-r}
-use lib.Dec.{leb, ltb}
-use lib.ListN.{length, getD, take, drop, length-drop, drop-of-length-le}
-use lib.Seq.{take-all, drop-cons}
-use borrow.Author.Tests.{le-leb, lt-leb, leb-true, leb-false, lt-ltb}
+use lib.Dec.{ltb}
+use lib.ListN.{length, getD, take, drop, length-drop}
+use lib.Seq.{take-all, take-take, getD-drop}
+use borrow.Author.Tests.{leb-true, lt-ltb, not-true, not-false}
 use Rattle.utf8.specs.Utf8.{isOne, charLen, pieceLen, charsFrom, chars, isChar, all, readable}
 use Rattle.utf8.proofs.TestLaws.{both}
-use Rattle.utf8.proofs.ListLaws.{all-append, all-parts}
+use Rattle.utf8.proofs.ListLaws.{all-append, all-parts, all-next, all-more, all-split}
 use Rattle.utf8.proofs.CharLaws.{Begins, char-one}
 use Rattle.utf8.proofs.CharsLaws.{chars-more, char-piece, chars-append, chars-of-front, chars-of-rest}
 
@@ -50,23 +48,45 @@ ascii-readable s r e t = sym (go s (sym e ∙ t))
         let one : charLen (b ∷ s) ≡ 1 = sym (char-one (b ∷ s) (λ z. omega arith) (omega (arith, leb-true b 0x7F (both (isOne b) (all isOne s) e .0)))) in
         readable-more (b ∷ s) (omega arith) ∙ simp one (go s (both (isOne b) (all isOne s) e .1))
 
--- two bytes ORed are below 0x80 where both are
-or-one : (a b : ℕ) → isOne (bitOr a b) ≡ (isOne a && isOne b)
-or-one a b = go (leb a 0x7F) (leb b 0x7F) refl refl
+-- is it ASCII, byte by byte: the first i bytes are seen
+pub seen-none : (s : List ℕ) → true ≡ all isOne (take 0 s)
+unfolding all
+seen-none s = refl
+
+module _ (s : List ℕ) (i : ℕ) (ascii : Bool) (e : ascii ≡ all isOne (take i s)) where
+  pub seen-next : i < length s → (ascii && isOne (getD s i 0)) ≡ all isOne (take (i + 1) s)
+  seen-next h = sym (all-next isOne s i 0 h ∙ rw e)
+
+  pub seen-all : length s ≤ i → ascii ≡ all isOne s
+  seen-all h = e ∙ ap (all isOne) (take-all i s h)
+
+-- the same of the 32 bytes from the place `at` on, of which k are seen
+module _ (s : List ℕ) (at k : ℕ) (ascii : Bool) (e : ascii ≡ all isOne (take k (drop at s))) where
+  pub near-next : at + 32 ≤ length s → k < 32 → (ascii && isOne (getD s (at + k) 0)) ≡ all isOne (take (k + 1) (drop at s))
+  near-next h l = sym (all-next isOne (drop at s) k 0 (rw length-drop (omega arith)) ∙ rw (e, getD-drop))
+
+  pub near-all : k ≤ 32 → 32 ≤ k → ascii ≡ all isOne (take 32 (drop at s))
+  near-all h l = let z : k ≡ 32 = omega arith in rw z at e
+
+-- and with 32 bytes at a time: those in front of the place i are ASCII, and the next 32 have been looked at
+module _ (s : List ℕ) (i : ℕ) (r : Bool) (q : r ≡ all isOne (take 32 (drop i s))) where
+  pub ascii-bad : not r ≡ true → false ≡ all isOne s
+  ascii-bad n =
+      sym (all-split isOne s i
+      ∙ ap (λ b. all isOne (take i s) && b) (all-split isOne (drop i s) 32)
+      ∙ simp (← q, not-true r n, and-false))
+
+  pub ascii-more : true ≡ all isOne (take i s) → not r ≡ false → true ≡ all isOne (take (i + 32) s)
+  ascii-more e y = sym (all-more isOne s i 32 ∙ simp (← e, ← q, not-false r y))
+
+-- the place i is behind the last 32 bytes, or among them
+pub ascii-last : (s : List ℕ) (i : ℕ) (r : Bool) → true ≡ all isOne (take i s) → length s - 32 ≤ i → r ≡ all isOne (take 32 (drop (length s - 32) s)) → r ≡ all isOne s
+ascii-last s i r e h q =
+    q ∙ ap (all isOne) (take-all 32 (drop (length s - 32) s) (simp length-drop (omega arith)))
+    ∙ sym (all-split isOne s (length s - 32) ∙ simp (front (length s - 32) h))
   where
-    go : (x y : Bool) → leb a 0x7F ≡ x → leb b 0x7F ≡ y → isOne (bitOr a b) ≡ (x && y)
-    go true true e f = le-leb (bitOr a b) 0x7F (omega (arith, or-lt 7 a b (omega (arith, leb-true a 0x7F e)) (omega (arith, leb-true b 0x7F f))))
-    go true false e f = lt-leb (bitOr a b) 0x7F (omega (arith, or-add-and a b, and-le-l a b, leb-false b 0x7F f))
-    go false y e f = lt-leb (bitOr a b) 0x7F (omega (arith, or-add-and a b, and-le-r a b, leb-false a 0x7F e))
-
-module _ (s : List ℕ) (seen i : ℕ) (e : all isOne s ≡ (isOne seen && all isOne (drop i s))) where
-  pub ascii-next : i < length s → all isOne s ≡ (isOne (bitOr seen (getD s i 0)) && all isOne (drop (i + 1) s))
-  unfolding all
-  ascii-next h = e ∙ ap (λ l. isOne seen && all isOne l) (drop-cons s i 0 h) ∙ simp (add-one, or-one, and-assoc)
-
-  pub ascii-end : length s ≤ i → isOne seen ≡ all isOne s
-  unfolding all
-  ascii-end h = sym (e ∙ ap (λ l. isOne seen && all isOne l) (drop-of-length-le s h) ∙ and-true (isOne seen))
+    front : (n : ℕ) → n ≤ i → all isOne (take n s) ≡ true
+    front n h = ap (all isOne) (sym (take-take n i s h)) ∙ both _ _ (sym (all-split isOne (take i s) n) ∙ sym e) .0
 
 -- a text parted in front of a byte that is no UTF8-tail is readable where both parts are
 pub readable-append : (q w : List ℕ) → Begins w → readable (q ++ w) ≡ (readable q && readable w)

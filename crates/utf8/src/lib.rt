@@ -1,6 +1,7 @@
 // UTF-8 (RFC 3629): characters, their edges, and the slices between edges.
 ghost use mathlib.Core.Path.{_≡_};
-ghost use lib.ListN.{getD};
+ghost use Prim.Native.Nat.{_+_, _≤_};
+ghost use lib.ListN.{getD, length, take, drop};
 ghost use Rattle.utf8.specs.Utf8.{isOne, isTail, isTwo, isThree, isFour, charLen, all, readable};
 ghost use Rattle.utf8.specs.Edge.{isEdge, hasSlice};
 
@@ -76,17 +77,50 @@ pub fn char_len(s: &[u8]) -> usize
     0
 }
 
-// One OR a byte and one test at the end: the compiler takes sixteen bytes and more at a time.
+// Whether the 32 bytes from `at` on are ASCII. There is no branch: the compiler makes vector comparisons of it.
+fn ascii_near(s: &[u8], at: usize) -> bool
+    requires { ⌜ at + 32 ≤ length (now s) ⌝ }
+    ensures { λ r. ⌜ r ≡ all isOne (take 32 (drop at (now (s .entry)))) ⌝ }
+{
+    let mut ascii = true;
+    let mut k = 0;
+    while k < 32 {
+        ascii = ascii & (s[at + k] <= 0x7F);
+        k += 1;
+    }
+    ascii
+}
+
+// The same of a whole text, byte by byte.
+fn ascii_bytewise(s: &[u8]) -> bool
+    ensures { λ r. ⌜ r ≡ all isOne (now (s .entry)) ⌝ }
+{
+    let mut ascii = true;
+    let mut i = 0;
+    while i < s.len() {
+        ascii = ascii & (s[i] <= 0x7F);
+        i += 1;
+    }
+    ascii
+}
+
+// With 32 bytes at a time. Of the last 32 some may have been seen already: that is quicker than a loop over the rest.
 fn is_ascii(s: &[u8]) -> bool
     ensures { λ r. ⌜ r ≡ all isOne (now (s .entry)) ⌝ }
 {
-    let mut seen: u8 = 0;
-    let mut i = 0;
-    while i < s.len() {
-        seen = seen | s[i];
-        i += 1;
+    let n = s.len();
+    if n < 32 {
+        return ascii_bytewise(s);
     }
-    seen <= 0x7F
+    let last = n - 32;
+    let mut i = 0;
+    while i < last {
+        if !ascii_near(s, i) {
+            return false;
+        }
+        i += 32;
+    }
+    ascii_near(s, last)
 }
 
 fn is_utf8(s: &[u8]) -> bool
