@@ -228,6 +228,18 @@ module _ (x : Bool) (first : Bool) (s : List ℕ) (i left : ℕ) (known : x ≡ 
       (known
       ∙ le-leb (length (separated 32 decimal first (drop i s))) left (omega (arith, len-end decimal 32 first s i (separated 32 decimal first (drop i s)) 0 (omega arith) h)))
 
+-- a line compared with the room, by its parts
+module _ (psv : Bool) (e : Element) (ns : List ℕ) (room h k : ℕ) (u : Measured (headText e) 158 h) (v : Measured (tailText psv e) 130 k) where
+  line-length : length (headText e ++ sequenceText ns ++ tailText psv e) ≡ h + k + length (sequenceText ns)
+  line-length = simp length-append (omega (arith, u .is, v .is))
+
+  pub line-none : room < h + k → false ≡ leb (length (headText e ++ sequenceText ns ++ tailText psv e)) room
+  line-none l = sym (lt-leb (length (headText e ++ sequenceText ns ++ tailText psv e)) room (omega (arith, line-length)))
+
+  pub line-measured : h + k ≤ room → (b : Bool) → b ≡ leb (length (sequenceText ns)) (room - (h + k))
+      → b ≡ leb (length (headText e ++ sequenceText ns ++ tailText psv e)) room
+  line-measured l b f = f ∙ sym (leb-shift (length (headText e ++ sequenceText ns ++ tailText psv e)) (length (sequenceText ns)) (h + k) room line-length l)
+
 -- the header
 pub header-is : headerText ≡ ascii "type|timestamp|peer_ip|peer_asn|prefix|as_path|origin_asns|origin|next_hop|local_pref|med|communities|atomic|aggr_asn|aggr_ip|only_to_customer"
 unfolding headerText separated
@@ -255,36 +267,25 @@ put-spoilt s r t out e f = let z : s ≡ true = sym e ∙ f in record { told = r
 pub slice-within : (e : Element) (asns : List ℕ) (r : Bool) → r ≡ spoilt e asns → r ≡ false → e .count ≤ length asns
 slice-within e asns r h k = count-within e asns (sym h ∙ k)
 
-short : (s r : Bool) (t out : List ℕ) → r ≡ s → r ≡ false → length out < length t → Printed s t out TooShort out
-short s r t out e f h =
-    let z : s ≡ false = sym e ∙ f in
-    record { told = rw z (simp (lt-leb (length t) (length out) h)); left = rw z (kept t out (length t) refl h) }
-
-module _ (psv : Bool) (e : Element) (asns out : List ℕ) (r : Bool) (h k : ℕ) (told : r ≡ spoilt e asns) (sound : r ≡ false) (u : Measured (headText e) 158 h) (v : Measured (tailText psv e) 130 k) where
-  line-length : length (lineText psv e asns) ≡ h + k + length (sequenceText (numbers e asns))
+module _ (psv : Bool) (e : Element) (asns out : List ℕ) (r b : Bool) (told : r ≡ spoilt e asns) (sound : r ≡ false)
+    (fits : b ≡ leb (length (headText e ++ sequenceText (numbers e asns) ++ tailText psv e)) (length out)) where
+  pub put-short : b ≡ false → Printed (spoilt e asns) (lineText psv e asns) out TooShort out
   unfolding lineText
-  line-length = simp length-append (omega (arith, u .is, v .is))
+  put-short f =
+      let z : spoilt e asns ≡ false = sym told ∙ sound in
+      let n : leb (length (lineText psv e asns)) (length out) ≡ false = sym fits ∙ f in
+      record { told = rw z (simp n); left = rw z (kept (lineText psv e asns) out (length (lineText psv e asns)) refl (leb-false (length (lineText psv e asns)) (length out) n)) }
 
-  pub put-short : length out < h + k → Printed (spoilt e asns) (lineText psv e asns) out TooShort out
-  put-short l = short (spoilt e asns) r (lineText psv e asns) out told sound (omega (arith, line-length))
-
-  module _ (b : Bool) (l : h + k ≤ length out) (fits : b ≡ leb (length (sequenceText (numbers e asns))) (length out - (h + k))) where
-    pub put-no-room : b ≡ false → Printed (spoilt e asns) (lineText psv e asns) out TooShort out
-    put-no-room f =
-        short (spoilt e asns) r (lineText psv e asns) out told sound (omega (arith, line-length, leb-false (length (sequenceText (numbers e asns))) (length out - (h + k)) (sym fits ∙ f)))
-
-    pub put-written : b ≡ true → (o₁ o₂ o : List ℕ) (a c d : ℕ) → Written (headText e) out 0 o₁ a → Written (sequenceText (numbers e asns)) o₁ a o₂ c
-        → Written (tailText psv e) o₂ c o d → Printed (spoilt e asns) (lineText psv e asns) out (Wrote d) o
-    unfolding lineText
-    put-written f o₁ o₂ o a c d w₁ w₂ w₃ =
-        let z : spoilt e asns ≡ false = sym told ∙ sound in
-        let n : length (lineText psv e asns) ≤ length out = omega (arith, line-length, leb-true (length (sequenceText (numbers e asns))) (length out - (h + k)) (sym fits ∙ f)) in
-        let w : Written (lineText psv e asns) out 0 o d = then (then w₁ w₂) w₃ in
-        let p : d ≡ length (lineText psv e asns) = omega (arith, w .place, room-all out 0 (lineText psv e asns) (omega arith)) in
-        record {
-          told = rw z (simp (le-leb (length (lineText psv e asns)) (length out) n) (ap Wrote p));
-          left = rw z (whole (lineText psv e asns) out (length (lineText psv e asns)) refl o d n w);
-        }
+  pub put-written : b ≡ true → (o₁ o₂ o : List ℕ) (a c d : ℕ) → Written (headText e) out 0 o₁ a → Written (sequenceText (numbers e asns)) o₁ a o₂ c
+      → Written (tailText psv e) o₂ c o d → Printed (spoilt e asns) (lineText psv e asns) out (Wrote d) o
+  unfolding lineText
+  put-written f o₁ o₂ o a c d w₁ w₂ w₃ =
+      let z : spoilt e asns ≡ false = sym told ∙ sound in
+      let n : leb (length (lineText psv e asns)) (length out) ≡ true = sym fits ∙ f in
+      let l : length (lineText psv e asns) ≤ length out = leb-true (length (lineText psv e asns)) (length out) n in
+      let w : Written (lineText psv e asns) out 0 o d = then (then w₁ w₂) w₃ in
+      let p : d ≡ length (lineText psv e asns) = omega (arith, w .place, room-all out 0 (lineText psv e asns) (omega arith)) in
+      record { told = rw z (simp n (ap Wrote p)); left = rw z (whole (lineText psv e asns) out (length (lineText psv e asns)) refl o d l w) }
 
 -- the fields joined are the parts one after another
 to-the-right : (x a b c d f p q g h i j z : List ℕ)

@@ -2,7 +2,7 @@
 ghost use mathlib.Core.Path.{_≡_};
 ghost use mathlib.Core.Bool.{true, false};
 ghost use mathlib.Core.List.{[], _∷_, _++_};
-ghost use Prim.Native.Nat.{_≤_};
+ghost use Prim.Native.Nat.{_+_, _*_};
 ghost use lib.ListN.{length};
 ghost use lib.Dec.{leb};
 ghost use Rattle.output.specs.Output.{Written, front, answer};
@@ -249,6 +249,31 @@ fn write_tail(psv: bool, e: Element, out: &mut [u8], at: usize) -> usize
     write_attributes(e, out, at)
 }
 
+// Whether a line with so many numbers fits whatever it holds. The bounds are those that its parts are measured with: 158 bytes
+// before the path and 130 behind it, 288 in all, and 21 for a number with its separator.
+fn surely_fits(count: usize, room: usize) -> bool
+    ensures { λ r. ⌜ r ≡ leb (288 + 21 * count) room ⌝ }
+{
+    if room < 288 {
+        return false;
+    }
+    count <= (room - 288) / 21
+}
+
+// Measured only where it is not sure: to measure an address is to write it.
+fn line_fits(psv: bool, e: Element, numbers: &[u32], room: usize) -> bool
+    ensures { λ r. ⌜ r ≡ leb (length (headText e ++ sequenceText (now (numbers .entry)) ++ tailText psv e)) room ⌝ }
+{
+    if surely_fits(numbers.len(), room) {
+        return true;
+    }
+    let around = head_len(e) + tail_len(psv, e);
+    if room < around {
+        return false;
+    }
+    has_room(numbers, room - around)
+}
+
 fn put_line(psv: bool, e: Element, asns: &[u32], out: &mut [u8]) -> ElementPut
     ensures { λ r. ⌜ Printed (spoilt e (now (asns .entry))) (lineText psv e (now (asns .entry))) (now (out .entry)) r (now (out .exit)) ⌝ }
 {
@@ -257,11 +282,7 @@ fn put_line(psv: bool, e: Element, asns: &[u32], out: &mut [u8]) -> ElementPut
     }
     let count = e.count;
     let numbers = &asns[..count];
-    let around = head_len(e) + tail_len(psv, e);
-    if out.len() < around {
-        return ElementPut::TooShort;
-    }
-    if has_room(numbers, out.len() - around) {
+    if line_fits(psv, e, numbers, out.len()) {
         let a = write_head(e, out, 0);
         let b = aspath_display::write_numbers(numbers, b' ', out, a);
         return ElementPut::Wrote(write_tail(psv, e, out, b));
