@@ -4,6 +4,7 @@ use mathlib.Core.List.{List, [], _∷_, _++_, append-assoc, append-nil}
 use mathlib.Core.Bool.{Bool, true, false, cond}
 use Prim.Native.Nat.{ℕ, zero, suc, _+_, _-_, _/_, _%_, _^_, _≤_, _<_}
 use native.Mathlib.Nat.{le-refl, pow-suc, one-le-pow}
+use native.Mathlib.Numerals.{unary-clauses}
 use native.Mathlib.Omega.{arith}
 use lib.ListN.{length, take, drop, set, length-append}
 use mir.Syntax.{w64}
@@ -84,29 +85,73 @@ drop-set-here [] j a h = absurd (omega arith)
 drop-set-here (x ∷ l) zero a h = refl
 drop-set-here (x ∷ l) (suc j) a h = drop-set-here l j a (omega arith)
 
+drop-set-two : (l : List ℕ) (j a b : ℕ) → j + 1 < length l → drop j (set (set l j a) (j + 1) b) ≡ a ∷ b ∷ drop (j + 2) l
+drop-set-two [] j a b h = absurd (omega arith)
+drop-set-two (x ∷ []) j a b h = absurd (omega arith)
+drop-set-two (x ∷ z ∷ l) zero a b h = refl
+drop-set-two (x ∷ z ∷ l) (suc j) a b h = simp unary-clauses (simp unary-clauses at (drop-set-two (z ∷ l) j a b (omega arith)))
+
+-- a number's last two digits
+decimal-longer : (y : ℕ) → 100 ≤ y → decimal y ≡ decimal (y / 100) ++ ((48 + y % 100 / 10) ∷ (48 + y % 100 % 10) ∷ [])
+decimal-longer y h = decimal-long y (omega arith) ∙ rw (decimal-long (y / 10) (omega arith), p, q, r) (append-assoc (decimal (y / 100)) _ _)
+  where
+    p : y / 10 / 10 ≡ y / 100
+    p = omega arith
+
+    q : y / 10 % 10 ≡ y % 100 / 10
+    q = omega arith
+
+    r : y % 10 ≡ y % 100 % 10
+    r = omega arith
+
+decimal-two : (y : ℕ) → 10 ≤ y → y < 100 → decimal y ≡ (48 + y / 10) ∷ (48 + y % 10) ∷ []
+decimal-two y h l = decimal-long y h ∙ rw (decimal-short (y / 10) (omega arith))
+
+length-longer : (y : ℕ) → 100 ≤ y → length (decimal y) ≡ length (decimal (y / 100)) + 2
+length-longer y h = simp (decimal-longer y h, length-append)
+
 -- filling a list from its end: the digits of y are still to be written, before the place i
 module _ (y i : ℕ) (f : length (decimal y) ≡ i) where
-  pub shorter : 10 ≤ y → length (decimal (y / 10)) ≡ i - 1
-  shorter h = omega (arith, length-long y h)
+  pub shorter : 100 ≤ y → length (decimal (y / 100)) ≡ i - 2
+  shorter h = omega (arith, length-longer y h)
 
-  pub not-yet : 10 ≤ y → 1 ≤ i - 1
-  not-yet h = omega (arith, length-long y h, length-pos (y / 10))
+  pub not-yet : 100 ≤ y → 1 ≤ i - 2
+  not-yet h = omega (arith, length-longer y h, length-pos (y / 100))
+
+  pub two-left : 100 ≤ y → 2 ≤ i
+  two-left h = omega (arith, length-longer y h)
+
+  module _ (out : List ℕ) (l : i ≤ length out) where
+    pub first-inside : 100 ≤ y → i - 2 < length out
+    first-inside h = omega (arith, length-longer y h)
+
+    pub second-inside : 100 ≤ y → i - 2 + 1 < length out
+    second-inside h = omega (arith, length-longer y h)
+
+    pub two-inside : 10 ≤ y → y < 100 → 1 < length out
+    two-inside h k = omega (arith, ap length (decimal-two y h k))
 
   module _ (t out : List ℕ) (g : t ≡ decimal y ++ drop i out) (l : i ≤ length out) where
-    pub one-more : 10 ≤ y → t ≡ decimal (y / 10) ++ drop (i - 1) (set out (i - 1) (48 + y % 10))
-    one-more h = g ∙ rw (decimal-long y h) (append-assoc (decimal (y / 10)) _ _ ∙ ap (λ (r : List ℕ). decimal (y / 10) ++ r) (sym here))
+    pub two-more : 100 ≤ y → t ≡ decimal (y / 100) ++ drop (i - 2) (set (set out (i - 2) (48 + y % 100 / 10)) (i - 2 + 1) (48 + y % 100 % 10))
+    two-more h = g ∙ rw (decimal-longer y h) (append-assoc (decimal (y / 100)) _ _ ∙ ap (λ (r : List ℕ). decimal (y / 100) ++ r) (sym here))
       where
-        z : suc (i - 1) ≡ i
-        z = omega (arith, length-long y h)
+        z : i - 2 + 2 ≡ i
+        z = omega (arith, length-longer y h)
 
-        here : drop (i - 1) (set out (i - 1) (48 + y % 10)) ≡ (48 + y % 10) ∷ drop i out
-        here = drop-set-here out (i - 1) (48 + y % 10) (omega (arith, z)) ∙ rw z
+        here : drop (i - 2) (set (set out (i - 2) (48 + y % 100 / 10)) (i - 2 + 1) (48 + y % 100 % 10)) ≡ (48 + y % 100 / 10) ∷ (48 + y % 100 % 10) ∷ drop i out
+        here = drop-set-two out (i - 2) (48 + y % 100 / 10) (48 + y % 100 % 10) (omega (arith, z)) ∙ rw z
 
     pub last-one : y < 10 → set out 0 (48 + y) ≡ t
     last-one h = drop-set-here out 0 (48 + y) (omega (arith, z)) ∙ sym (g ∙ rw (decimal-short y h, ← z))
       where
         z : 1 ≡ i
         z = rw (decimal-short y h) at f
+
+    pub last-two : 10 ≤ y → y < 100 → set (set out 0 (48 + y / 10)) 1 (48 + y % 10) ≡ t
+    last-two h k = drop-set-two out 0 (48 + y / 10) (48 + y % 10) (omega (arith, z)) ∙ sym (g ∙ rw (decimal-two y h k, ← z))
+      where
+        z : 2 ≡ i
+        z = rw (decimal-two y h k) at f
 
 pub fill-start : (n : ℕ) (out : List ℕ) → length out ≡ length (decimal n) → decimal n ≡ decimal n ++ drop (length out) out
 fill-start n out e = rw (drop-length out) (sym (append-nil (decimal n)))

@@ -21,19 +21,27 @@ pub fn decimal_len(n: u64) -> usize
     if n < power { len } else { len + 1 }
 }
 
-// The digits of n fill out.
+// The digits of n fill out, from its end, two at a time: half the divisions.
 fn fill(n: u64, out: &mut [u8])
     requires { ⌜ length (now out) ≡ length (decimal n) ⌝ }
     ensures { λ _. ⌜ now (out .exit) ≡ decimal n ⌝ }
 {
     let mut i = out.len();
     let mut y = n;
-    while 10 <= y {
-        i -= 1;
-        out[i] = 48 + (y % 10) as u8;
-        y = y / 10;
+    while 100 <= y {
+        let two = (y % 100) as u8;
+        i -= 2;
+        out[i] = 48 + two / 10;
+        out[i + 1] = 48 + two % 10;
+        y = y / 100;
     }
-    out[0] = 48 + y as u8;
+    let first = y as u8;
+    if first < 10 {
+        out[0] = 48 + first;
+        return;
+    }
+    out[0] = 48 + first / 10;
+    out[1] = 48 + first % 10;
 }
 
 // The digits that have room are the digits of n without its last ones.
