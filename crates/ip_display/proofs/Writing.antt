@@ -14,7 +14,7 @@ use lib.Dec.{eqb, leb, ltb}
 use borrow.Author.Tests.{le-ltb, lt-ltb, lt-leb, le-leb, eq-eqb, ne-eqb, leb-true, leb-false}
 use Rattle.decimal_display.specs.Printed.{decimal}
 use Rattle.output.specs.Output.{Written}
-use Rattle.decimal_display.proofs.Printed.{digits-most}
+use Rattle.decimal_display.proofs.Printed.{decimal-short, decimal-long, digits-most}
 use Rattle.output.proofs.Output.{then, nothing, Left, next-left, none-left}
 use Rattle.ip_display.specs.Groups.{groupsOf, counted, zeros, longest, firstRun}
 use Rattle.ip_display.specs.Text.{beforeDot, dotted, hexByte, hexes, hex, behindColons, joined, shortened, plain, isMapped, mapped, ipv6Text}
@@ -73,6 +73,25 @@ module _ (g : ℕ) (out : List ℕ) (at : ℕ) where
       → b ≡ hexByte (g / 256 % 16) → Written (b ∷ []) o₁ p o₂ q → c ≡ hexByte (g / 16 % 16) → Written (c ∷ []) o₂ q o₃ s
       → d ≡ hexByte (g % 16) → Written (d ∷ []) o₃ s o r → Written (hex g) out at o r
   written-4 h l a b c d p q s r o₁ o₂ o₃ o ea wa eb wb ec wc ed wd = rw (hex-4 g h l, ← ea, ← eb, ← ec, ← ed) (then (then (then wa wb) wc) wd)
+
+-- an octet by its number of digits
+octet-3 : (o : ℕ) → 100 ≤ o → o < 2 ^ 8 → decimal o ≡ ((48 + o / 100) ∷ []) ++ ((48 + o / 10 % 10) ∷ []) ++ ((48 + o % 10) ∷ [])
+octet-3 o h l =
+    let z : o / 10 / 10 ≡ o / 100 = omega arith in
+    decimal-long o (omega arith) ∙ rw (decimal-long (o / 10) (omega arith), z, decimal-short (o / 100) (omega arith))
+
+-- writers of an octet
+module _ (o : ℕ) (out : List ℕ) (at : ℕ) where
+  pub written-octet-1 : o < 10 → (r : ℕ) (new : List ℕ) → Written ((48 + o) ∷ []) out at new r → Written (decimal o) out at new r
+  written-octet-1 h r new w = rw (decimal-short o h) w
+
+  pub written-octet-2 : 10 ≤ o → o < 100 → (p r : ℕ) (o₁ new : List ℕ) → Written ((48 + o / 10) ∷ []) out at o₁ p → Written ((48 + o % 10) ∷ []) o₁ p new r
+      → Written (decimal o) out at new r
+  written-octet-2 h l p r o₁ new w v = rw (decimal-long o h, decimal-short (o / 10) (omega arith)) (then w v)
+
+  pub written-octet-3 : 100 ≤ o → o < 2 ^ 8 → (p q r : ℕ) (o₁ o₂ new : List ℕ) → Written ((48 + o / 100) ∷ []) out at o₁ p → Written ((48 + o / 10 % 10) ∷ []) o₁ p o₂ q
+      → Written ((48 + o % 10) ∷ []) o₂ q new r → Written (decimal o) out at new r
+  written-octet-3 h l p q r o₁ o₂ new w v u = rw (octet-3 o h l) (then (then w v) u)
 
 pub written-dotted : (n : ℕ) (out o₁ o₂ o₃ o : List ℕ) (at a b c r : ℕ) → Written (beforeDot (n / 16777216 % 256)) out at o₁ a → Written (beforeDot (n / 65536 % 256)) o₁ a o₂ b
     → Written (beforeDot (n / 256 % 256)) o₂ b o₃ c → Written (decimal (n % 256)) o₃ c o r → Written (dotted n) out at o r

@@ -2,6 +2,7 @@
 ghost use mathlib.Core.Path.{_≡_};
 ghost use Prim.Native.Nat.{_-_, _≤_, _<_};
 ghost use lib.ListN.{take, drop};
+ghost use Rattle.decimal_display.specs.Printed.{decimal};
 ghost use Rattle.output.specs.Output.{Written};
 ghost use Rattle.ip_display.specs.Groups.{groupsOf, counted, longest, firstRun};
 ghost use Rattle.ip_display.specs.Text.{beforeDot, dotted, hexByte, hex, joined, plain, ipv6Text};
@@ -34,10 +35,26 @@ fn write_hex(g: u16, out: &mut [u8], at: usize) -> usize
     output::write_byte(hex_byte(g % 16), out, c)
 }
 
-fn write_octet(n: u32, out: &mut [u8], at: usize) -> usize
-    ensures { λ r. ⌜ Written (beforeDot n) (now (out .entry)) at (now (out .exit)) r ⌝ }
+// An octet has one, two or three digits, so nothing is counted first and there is no loop.
+fn write_octet(o: u8, out: &mut [u8], at: usize) -> usize
+    ensures { λ r. ⌜ Written (decimal o) (now (out .entry)) at (now (out .exit)) r ⌝ }
 {
-    let a = decimal_display::write_u32(n, out, at);
+    if o < 10 {
+        return output::write_byte(48 + o, out, at);
+    }
+    if o < 100 {
+        let a = output::write_byte(48 + o / 10, out, at);
+        return output::write_byte(48 + o % 10, out, a);
+    }
+    let a = output::write_byte(48 + o / 100, out, at);
+    let b = output::write_byte(48 + o / 10 % 10, out, a);
+    output::write_byte(48 + o % 10, out, b)
+}
+
+fn write_before_dot(o: u8, out: &mut [u8], at: usize) -> usize
+    ensures { λ r. ⌜ Written (beforeDot o) (now (out .entry)) at (now (out .exit)) r ⌝ }
+{
+    let a = write_octet(o, out, at);
     output::write_byte(b'.', out, a)
 }
 
@@ -45,10 +62,10 @@ fn write_octet(n: u32, out: &mut [u8], at: usize) -> usize
 pub fn write_ipv4(n: u32, out: &mut [u8], at: usize) -> usize
     ensures { λ r. ⌜ Written (dotted n) (now (out .entry)) at (now (out .exit)) r ⌝ }
 {
-    let a = write_octet(n / 16777216 % 256, out, at);
-    let b = write_octet(n / 65536 % 256, out, a);
-    let c = write_octet(n / 256 % 256, out, b);
-    decimal_display::write_u32(n % 256, out, c)
+    let a = write_before_dot((n / 16777216 % 256) as u8, out, at);
+    let b = write_before_dot((n / 65536 % 256) as u8, out, a);
+    let c = write_before_dot((n / 256 % 256) as u8, out, b);
+    write_octet((n % 256) as u8, out, c)
 }
 
 // The groups of g from `from` up to `to`, with ':' between them.
