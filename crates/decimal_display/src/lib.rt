@@ -1,6 +1,6 @@
 // Decimal numbers printed.
 ghost use mathlib.Core.Path.{_≡_};
-ghost use Prim.Native.Nat.{_≤_};
+ghost use Prim.Native.Nat.{_≤_, _<_};
 ghost use lib.ListN.{length};
 ghost use Rattle.decimal_display.specs.Printed.{decimal, difference};
 ghost use Rattle.output.specs.Output.{Written, front, answer};
@@ -45,12 +45,10 @@ fn fill(n: u64, out: &mut [u8])
 }
 
 // The digits that have room are the digits of n without its last ones.
-pub fn write_u64(n: u64, out: &mut [u8], at: usize) -> usize
+fn write_cut(n: u64, out: &mut [u8], at: usize) -> usize
+    requires { ⌜ at < length (now out) ⌝ }
     ensures { λ r. ⌜ Written (decimal n) (now (out .entry)) at (now (out .exit)) r ⌝ }
 {
-    if out.len() <= at {
-        return at;
-    }
     let room = out.len() - at;
     let mut len = decimal_len(n);
     let mut y = n;
@@ -61,6 +59,22 @@ pub fn write_u64(n: u64, out: &mut [u8], at: usize) -> usize
     let end = at + len;
     fill(y, &mut out[at..end]);
     end
+}
+
+// The usual number has room, so what drops digits stands apart.
+pub fn write_u64(n: u64, out: &mut [u8], at: usize) -> usize
+    ensures { λ r. ⌜ Written (decimal n) (now (out .entry)) at (now (out .exit)) r ⌝ }
+{
+    if out.len() <= at {
+        return at;
+    }
+    let digits = decimal_len(n);
+    if out.len() - at < digits {
+        return write_cut(n, out, at);
+    }
+    let behind = at + digits;
+    fill(n, &mut out[at..behind]);
+    behind
 }
 
 pub fn write_u32(n: u32, out: &mut [u8], at: usize) -> usize
