@@ -163,7 +163,7 @@ found-rise x c = go (areRising x) refl
     go true h e = let z : x ≡ c = cc in ap areRising (sym z) ∙ h
     go false h e = let z : _≡_ {A = ℕ} 0 1 = cc in absurd (omega arith)
 
-none-found : (A : Type 0) (c : Columns) → NoColumns ≡ Found c → A
+pub none-found : (A : Type 0) (c : Columns) → NoColumns ≡ Found c → A
 none-found A c e = let z : _≡_ {A = ℕ} 0 1 = cc in absurd (omega arith)
 
 five-rise : (n m l w p : Place) (c : Columns) → five n m l w p ≡ Found c → areRising c ≡ true

@@ -48,7 +48,7 @@ unfolding behind
 behind-end s i v h = rw (drop-of-length-le s h)
 
 -- the first of the digits behind v, and those behind it
-behind-cons : (v b n : ℕ) (s : List ℕ) → behind v (b ∷ s) ≡ some n → (isDigit b ≡ true) × (behind (v * 10 + (b - 48)) s ≡ some n)
+pub behind-cons : (v b n : ℕ) (s : List ℕ) → behind v (b ∷ s) ≡ some n → (isDigit b ≡ true) × (behind (v * 10 + (b - 48)) s ≡ some n)
 unfolding behind
 behind-cons v b n s e = go (isDigit b) refl e
   where

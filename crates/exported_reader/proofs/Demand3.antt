@@ -24,7 +24,8 @@ use Rattle.text_dump.specs.State.{plain, stored, cursor, moved}
 use Rattle.text_dump.specs.Rules.{WithAsns, rules}
 use Rattle.text_dump.specs.Next.{Step, stepped, next, lent}
 use Rattle.text_dump.specs.declared.State.{State}
-use Rattle.text_dump.proofs.StateLaws.{moved-cursor}
+use Rattle.text_dump.proofs.StateLaws.{moved-cursor, cursor-moved}
+use Rattle.text_dump.proofs.RulesLaws.{lines-fit}
 use Rattle.text_dump.proofs.OpenLaws.{open-append, opened-rising, opened-time, opened-nothing}
 use Rattle.text_dump.proofs.Demand3 as by-value
 use Rattle.text_dump.proofs.Demand3.{Accepted}
@@ -34,18 +35,9 @@ use Rattle.little.specs.Little.{wordsIn}
 use Rattle.collector.specs.Bytes.{stateBytes, elementBytes, stateIn}
 use Rattle.collector.specs.Exports.{opensIn, openLeft, turnsIn, turnLeft, Left, answersIn, nextIn, nextLeft}
 use Rattle.exported_reader.specs.Reader.{Lent, lentRules, answered, rememberedIn, reader, opening}
-use Rattle.exported_reader.proofs.Fitting.{Read, lines-fit, moved-fits, opened-fits}
+use Rattle.exported_reader.proofs.Fitting.{Read, read-fits, moved-fits, opened-fits}
 use Rattle.exported_reader.proofs.Stored.{state-length, state-back, state-again, element-back}
 use Rattle.exported_reader.proofs.Same.{same-next, Regular, regular-next}
-
--- the cursor of a state that is moved
-plain-stored : (m : Remembered NetworkPrefix) → plain (stored m) ≡ m
-plain-stored nothing = refl
-plain-stored invalid = refl
-plain-stored (valid p) = refl
-
-cursor-moved : (σ : State) (c : Cursor NetworkPrefix) → cursor (moved σ c) ≡ c
-cursor-moved σ c = ap (λ (m : Remembered NetworkPrefix). record { at = c .at; remembered = m }) (plain-stored (c .remembered))
 
 -- the cursor that some bytes hold
 cursorIn : Option State → Cursor NetworkPrefix
@@ -141,7 +133,7 @@ module _ (σ : State) (fit : Fits σ) (rising : areRising (σ .columns) ≡ true
     set = set;
     get-set = λ t b c f r h. get-set b c (r .0) (h .1);
     rest-set = λ t b c f r h. rest-set b c (r .0) (h .1);
-    lines-fit = lines-fit σ;
+    lines-fit = lines-fit Read read-fits σ;
     next-is = λ t k b f r h. next-is t k b r h;
     turn-is = λ t p b f r h. turn-is p b r (h .1);
     remembered-is = remembered-is;

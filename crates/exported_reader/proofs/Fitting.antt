@@ -31,17 +31,10 @@ use Rattle.text_dump_header.specs.Header.{answer, through, unreadableLine, prea
 use Rattle.text_dump_header.specs.declared.Preamble.{Preamble}
 use Rattle.text_dump_header.specs.declared.HeaderRead.{HeaderRead}
 use Rattle.text_dump_header.specs.declared.HeaderRead.the-variants.{Header, Unreadable}
-use Rattle.text_dump_line.specs.Line.{lineOf}
-use Rattle.text_dump_line.specs.declared.Line.{Line}
-use Rattle.text_dump_line.specs.declared.Line.the-variants as line
-use Rattle.text_dump_line.specs.declared.PrefixText.the-variants.{Blank, Invalid, Valid}
-use Rattle.text_dump_line.proofs.PrefixLaws.{Brings-line, line-brings}
 use Rattle.plain_reader.specs.Rules.{Remembered, nothing, invalid, valid}
 use Rattle.plain_reader.specs.Cursor.{Cursor}
 use Rattle.plain_reader.specs.Refinement as Plain
-use Rattle.plain_reader.specs.Refinement.{Fits-line}
 use Rattle.text_dump.specs.State.{stored, moved}
-use Rattle.text_dump.specs.Rules.{said, rules}
 use Rattle.text_dump.specs.Open.{opened, openOf, peerIp, peerAsn}
 use Rattle.text_dump.specs.declared.State.{State}
 use Rattle.text_dump.proofs.OpenLaws.{found-header}
@@ -96,19 +89,7 @@ short p h = go (p .addr) (leb-true (p .len) (bits (p .addr)) h)
     go (V4 n) h = omega arith
     go (V6 u l) h = omega arith
 
--- no line brings another
-pub lines-fit : (σ : State) (s : List ℕ) → Fits-line Read (rules σ .classify s)
-lines-fit σ s = go (lineOf (σ .columns) s) (line-brings Read read-fits (σ .columns) s)
-  where
-    go : (l : Line) → Brings-line Read l → Fits-line Read (said s l)
-    go line.Unreadable h = tt
-    go line.Passed h = tt
-    go (line.Wrapped p) h = h
-    go (line.Route Blank e) h = tt
-    go (line.Route Invalid e) h = tt
-    go (line.Route (Valid p) e) h = h
-
--- so a state keeps fitting when its cursor is moved to where a line left it
+-- no line brings another (text_dump, RulesLaws.lines-fit): a state keeps fitting when its cursor is moved to where a line left it
 remembered-fits : (m : Remembered NetworkPrefix) → Plain.Fits-prefix Read m → FitsRemembered (stored m)
 remembered-fits nothing h = tt
 remembered-fits invalid h = tt

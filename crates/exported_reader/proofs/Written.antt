@@ -30,7 +30,8 @@ use Rattle.codec.specs.Spelling.{FitsRemembered, Fits}
 use Rattle.codec.proofs.OneSpelling.{spelled}
 use Rattle.collector.specs.Bytes.{stateBytes, stateIn}
 use Rattle.collector.specs.Exports.{openLeft, turnLeft, answersIn, nextLeft}
-use Rattle.exported_reader.proofs.Fitting.{Read, lines-fit, moved-fits, opened-fits}
+use Rattle.exported_reader.proofs.Fitting.{Read, read-fits, moved-fits, opened-fits}
+use Rattle.text_dump.proofs.RulesLaws.{lines-fit}
 use Rattle.exported_reader.proofs.Stored.{state-back}
 use Rattle.exported_reader.proofs.Same.{Regular, regular-next}
 
@@ -100,7 +101,7 @@ module _ (s : List ℕ) (room : 128 ≤ length s) (σ : State) (here : stateIn s
         go true e = refl
         go false e =
             by-answer (z .0) (z .1) (regular-next σ t k (cursor σ) (position-inside σ (length t) e))
-            (next-keeps (rules σ) Read (lines-fit σ) (view t (cursor σ)) k (read-there (σ .remembered) (fit .remembered) (valid-there (length t) e)))
+            (next-keeps (rules σ) Read (lines-fit Read read-fits σ) (view t (cursor σ)) k (read-there (σ .remembered) (fit .remembered) (valid-there (length t) e)))
 
   pub next-spells : (t a e : List ℕ) → 176 ≤ length e → stateIn (nextLeft s t a e .state) ≡ some (next σ t (length a) .1)
   unfolding nextLeft

@@ -5,7 +5,7 @@ use elem::OptAsn;
 use network::Asn;
 use network::IpAddr;
 use network::NetworkPrefix;
-use text_dump_line::AsnsPut;
+use path_text::AsnsPut;
 use text_dump_line::Line;
 use text_dump_line::PrefixText;
 use text_dump_line::RouteEntry;
@@ -179,7 +179,7 @@ fn route(
 ) -> Answer {
     let mut numbers = [0u32; 16];
     let path = text_dump_line::path_of(line, entry);
-    let AsnsPut::Wrote(count) = text_dump_line::put_asns(path, &mut numbers) else {
+    let AsnsPut::Wrote(count) = path_text::put_asns(path, &mut numbers) else {
         return Answer::TooFewPlaces;
     };
     if k < count {

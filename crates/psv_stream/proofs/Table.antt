@@ -17,11 +17,7 @@ use Rattle.network.specs.Prefix.{validPrefix}
 use Rattle.network.specs.declared.NetworkPrefix.{NetworkPrefix}
 use Rattle.elem.specs.Element.{spoilt}
 use Rattle.psv.specs.Line.{headerText}
-use Rattle.text_dump_line.specs.Line.{lineOf}
-use Rattle.text_dump_line.specs.declared.Line.{Line}
-use Rattle.text_dump_line.specs.declared.Line.the-variants.{Unreadable, Passed, Wrapped, Route}
-use Rattle.text_dump_line.specs.declared.PrefixText.the-variants.{Blank, Invalid as InvalidText, Valid as ValidText}
-use Rattle.text_dump_line.proofs.PrefixLaws.{Valid-line, line-valid}
+use Rattle.network.proofs.Valid.{read-valid}
 use Rattle.plain_reader.specs.Lists.{Each}
 use Rattle.plain_reader.specs.Rules.{Remembered, nothing, invalid, valid, unreadable, passed, wrapped, route, replace}
 use Rattle.plain_reader.specs.Rules.{Line as Plain}
@@ -38,31 +34,13 @@ use Rattle.text_dump.specs.Next.{next, stepped}
 use Rattle.text_dump.specs.declared.State.{State}
 use Rattle.text_dump.proofs.Demand3.{Fits, not-spoilt, Accepted}
 use Rattle.text_dump.proofs.StateLaws.{moved-cursor}
+use Rattle.text_dump.proofs.RulesLaws.{lines-fit}
+use Rattle.plain_reader.proofs.Fits.{line-keeps}
 use Rattle.text_dump.proofs.OpenLaws.{opened-rising, opened-time, opened-nothing}
 use Rattle.psv_stream.specs.Printed.{body, feed, dated, answered, after, onLine, printedFrom, printed}
 use Rattle.psv_stream.specs.Printed as P
 use Rattle.psv_stream.specs.Table.{elementLine, Passes, HasRoom}
 use Rattle.psv_stream.proofs.Opening.{singles, not-empty, header-printed}
-
--- a prefix that a line brings is valid
-fits-line : (σ : State) (s : List ℕ) → Fits-line Fits (rules σ .classify s)
-fits-line σ s = go (lineOf (σ .columns) s) (line-valid (σ .columns) s)
-  where
-    go : (l : Line) → Valid-line l → Fits-line Fits (said s l)
-    go Unreadable h = tt
-    go Passed h = tt
-    go (Wrapped p) h = h
-    go (Route Blank e) h = tt
-    go (Route InvalidText e) h = tt
-    go (Route (ValidText p) e) h = h
-
-fits-after : (m : Remembered NetworkPrefix) (x : Plain NetworkPrefix RouteData) → Fits-prefix Fits m → Fits-line Fits x → Fits-prefix Fits (after-line m x)
-fits-after m unreadable h f = h
-fits-after m passed h f = h
-fits-after m (wrapped p) h f = f
-fits-after m (route nothing r) h f = h
-fits-after m (route invalid r) h f = tt
-fits-after m (route (valid p) r) h f = f
 
 room-first : (a b : List WithAsns) → Each HasRoom (a ++ b) → Each HasRoom a
 room-first [] b h = tt
@@ -132,7 +110,7 @@ module _ (σ : State) (rising : areRising (σ .columns) ≡ true) (time : isTime
       → (j : ℕ) × (onLine (body (at i m) n) l ≡ (text (after-line m (rules σ .classify l)) (routes (rules σ .classify l)), body (at j (after-line m (rules σ .classify l))) (after n)))
   unfolding onLine
   line-printed n i m l e p h room =
-      let d = does (after n) l (rules σ .classify l) m (p .1) (fits-after m (rules σ .classify l) h (fits-line σ l)) room in
+      let d = does (after n) l (rules σ .classify l) m (p .1) (line-keeps Fits m (rules σ .classify l) (lines-fit Fits read-valid σ l) h) room in
       (d .0, rw (le-ltb 65536 (length l) (p .0), turned-at i m, next-one l m e h) (d .1))
 
   -- lines of the body
@@ -146,7 +124,7 @@ module _ (σ : State) (rising : areRising (σ .columns) ≡ true) (time : isTime
       let behind = yielded (rules σ) (after-line m x) (map (rules σ .classify) ls) in
       let w = line-printed n i m l (p .0 .0) (p .0 .1) h (room-first here behind room) in
       rw (w .1, map-append elementLine here behind, flatten-append (map elementLine here) (map elementLine behind))
-      (ap (λ (t : List ℕ). text (after-line m x) (routes x) ++ t) (body-printed ls (after n) (w .0) (after-line m x) (p .1) (fits-after m x h (fits-line σ l)) (room-last here behind room)))
+      (ap (λ (t : List ℕ). text (after-line m x) (routes x) ++ t) (body-printed ls (after n) (w .0) (after-line m x) (p .1) (line-keeps Fits m x (lines-fit Fits read-valid σ l) h) (room-last here behind room)))
 
 both : {A : Type 0} (Q R : A → Type 0) (l : List A) → Each Q l → Each R l → Each (λ (x : A). Q x × R x) l
 both Q R [] g h = tt

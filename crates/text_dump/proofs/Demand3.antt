@@ -12,11 +12,7 @@ use Rattle.columns.specs.Columns.{areRising}
 use Rattle.seconds.specs.Seconds.{isTimestamp}
 use Rattle.network.specs.Prefix.{validPrefix}
 use Rattle.network.specs.declared.NetworkPrefix.{NetworkPrefix}
-use Rattle.text_dump_line.specs.Line.{lineOf}
-use Rattle.text_dump_line.specs.declared.Line.{Line}
-use Rattle.text_dump_line.specs.declared.Line.the-variants.{Unreadable, Passed, Wrapped, Route}
-use Rattle.text_dump_line.specs.declared.PrefixText.the-variants.{Blank, Invalid as InvalidText, Valid as ValidText}
-use Rattle.text_dump_line.proofs.PrefixLaws.{Valid-line, line-valid}
+use Rattle.network.proofs.Valid.{read-valid}
 use Rattle.plain_reader.specs.Lists.{Each}
 use Rattle.plain_reader.specs.Rules.{Remembered as Plain, nothing, invalid, valid}
 use Rattle.plain_reader.specs.Calls.{Call, end}
@@ -34,31 +30,12 @@ use Rattle.text_dump.specs.Reader.{reader, opening}
 use Rattle.text_dump.specs.declared.Remembered.{Remembered}
 use Rattle.text_dump.specs.declared.Remembered.the-variants.{Nothing, Invalid, Valid}
 use Rattle.text_dump.specs.declared.State.{State}
-use Rattle.text_dump.proofs.StateLaws.{moved-cursor}
+use Rattle.text_dump.proofs.StateLaws.{moved-cursor, cursor-moved}
+use Rattle.text_dump.proofs.RulesLaws.{lines-fit}
 use Rattle.text_dump.proofs.OpenLaws.{open-append, opened-rising, opened-time, opened-nothing}
 
 abbrev pub Fits : NetworkPrefix → Type 0
 Fits p = validPrefix p ≡ true
-
--- a state holds any cursor
-holds : (σ : State) (c : Cursor NetworkPrefix) → cursor (moved σ c) ≡ c
-holds σ c = ap (λ (m : Plain NetworkPrefix). record { at = c .at; remembered = m }) (go (c .remembered))
-  where
-    go : (m : Plain NetworkPrefix) → plain (stored m) ≡ m
-    go nothing = refl
-    go invalid = refl
-    go (valid p) = refl
-
-lines-fit : (σ : State) (s : List ℕ) → Fits-line Fits (rules σ .classify s)
-lines-fit σ s = go (lineOf (σ .columns) s) (line-valid (σ .columns) s)
-  where
-    go : (l : Line) → Valid-line l → Fits-line Fits (said s l)
-    go Unreadable h = tt
-    go Passed h = tt
-    go (Wrapped p) h = h
-    go (Route Blank e) h = tt
-    go (Route InvalidText e) h = tt
-    go (Route (ValidText p) e) h = h
 
 valid-there : (m : Remembered) → Fits-prefix Fits (plain m) → validRemembered m ≡ true
 valid-there Nothing h = refl
@@ -89,9 +66,9 @@ module _ (σ : State) (rising : areRising (σ .columns) ≡ true) (time : isTime
     Rest = Same-reading σ;
     get = cursor;
     set = moved;
-    get-set = λ t s c f r h. holds s c;
-    rest-set = λ t s c f r h. ap (λ (x : State). moved x c) r ∙ ap (moved σ) (sym (holds s c));
-    lines-fit = lines-fit σ;
+    get-set = λ t s c f r h. cursor-moved s c;
+    rest-set = λ t s c f r h. ap (λ (x : State). moved x c) r ∙ ap (moved σ) (sym (cursor-moved s c));
+    lines-fit = lines-fit Fits read-valid σ;
     next-is = λ t k s f r h. next-is t k s r h;
     turn-is = λ t p s f r h. refl;
     remembered-is = λ s. refl;

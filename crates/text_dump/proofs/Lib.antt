@@ -1,4 +1,5 @@
 pub mod StateLaws
+pub mod RulesLaws
 pub mod OpenLaws
 pub mod NextLaws
 pub mod Demand3

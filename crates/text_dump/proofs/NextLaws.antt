@@ -17,12 +17,14 @@ use Rattle.scan.proofs.LineLaws.{lineEnd-inside, lineEnd-after}
 use Rattle.network.specs.declared.NetworkPrefix.{NetworkPrefix}
 use Rattle.elem.specs.declared.Element.{Element as Elem}
 use Rattle.elem.specs.declared.OptAsn.{OptAsn}
-use Rattle.text_dump_line.specs.Path.{asnsOf, putAnswer, putList}
+use Rattle.path_text.specs.Path.{asnsOf, putAnswer}
+use Rattle.path_text.proofs.PathLaws.{few-told, all-told, few-kept, all-laid}
+use Rattle.output.specs.Output.{front}
 use Rattle.text_dump_line.specs.Line.{lineOf, pathOf}
 use Rattle.text_dump_line.specs.declared.RouteEntry.{RouteEntry}
 use Rattle.text_dump_line.specs.declared.PrefixText.{PrefixText}
-use Rattle.text_dump_line.specs.declared.AsnsPut.{AsnsPut}
-use Rattle.text_dump_line.specs.declared.AsnsPut.the-variants.{Wrote, TooFew}
+use Rattle.path_text.specs.declared.AsnsPut.{AsnsPut}
+use Rattle.path_text.specs.declared.AsnsPut.the-variants.{Wrote, TooFew}
 use Rattle.text_dump_line.specs.declared.Line.{Line}
 use Rattle.text_dump_line.specs.declared.Line.the-variants.{Unreadable as UnreadableLine, Passed, Wrapped, Route}
 use Rattle.plain_reader.specs.Rules.{Remembered as Plain, nothing, invalid, valid, replace}
@@ -108,39 +110,8 @@ module _ (σ : State) (t : List ℕ) where
 stays : (σ : State) (n : ℕ) → stepped σ (refused n, cursor σ) ≡ (refused n, σ)
 stays σ n = ap (λ (s : State). (refused n, s)) (moved-cursor σ)
 
--- AS numbers into a lent list: all of them, or a refusal with the list as it was
-module _ (asns old : List ℕ) where
-  pub too-few : putAnswer asns old ≡ TooFew → leb (length asns) (length old) ≡ false
-  unfolding putAnswer
-  too-few = go (leb (length asns) (length old))
-    where
-      go : (b : Bool) → cond b (Wrote (length asns)) TooFew ≡ TooFew → b ≡ false
-      go true h = let z : _≡_ {A = ℕ} 0 1 = cc in absurd (omega arith)
-      go false h = refl
-
-  pub enough : (n : ℕ) → putAnswer asns old ≡ Wrote n → (leb (length asns) (length old) ≡ true) × (n ≡ length asns)
-  unfolding putAnswer
-  enough n = go (leb (length asns) (length old))
-    where
-      go : (b : Bool) → cond b (Wrote (length asns)) TooFew ≡ Wrote n → (b ≡ true) × (n ≡ length asns)
-      go true h = (refl, cc)
-      go false h = let z : _≡_ {A = ℕ} 0 1 = cc in absurd (omega arith)
-
-  pub put-nothing : leb (length asns) (length old) ≡ false → putList asns old ≡ old
-  unfolding putList
-  put-nothing h = rw h
-
-  pub put-all : leb (length asns) (length old) ≡ true → putList asns old ≡ asns ++ drop (length asns) old
-  unfolding putList
-  put-all h = rw h
-
-  pub count-inside : (put : AsnsPut) (new : List ℕ) → (put ≡ putAnswer asns old) × (new ≡ putList asns old) → (n : ℕ) → put ≡ Wrote n → n ≤ length new
-  count-inside put new wrote n k =
-      let h : (leb (length asns) (length old) ≡ true) × (n ≡ length asns) = enough n (sym (wrote .0) ∙ k) in
-      rw (h .1, wrote .1, put-all (h .0)) (simp length-append (omega arith))
-
 -- a route under a valid prefix
-module _ (σ : State) (p : NetworkPrefix) (e : RouteEntry) (line : List ℕ) (j : ℕ) (old : List ℕ) (path : List ℕ) (g : path ≡ pathOf e line) (put : AsnsPut) (new : List ℕ) (wrote : (put ≡ putAnswer (asnsOf path) old) × (new ≡ putList (asnsOf path) old)) where
+module _ (σ : State) (p : NetworkPrefix) (e : RouteEntry) (line : List ℕ) (j : ℕ) (old : List ℕ) (path : List ℕ) (g : path ≡ pathOf e line) (put : AsnsPut) (new : List ℕ) (wrote : (put ≡ putAnswer (asnsOf path) old) × (new ≡ front (asnsOf path) old)) where
   abbrev step : Step
   step = stepped σ (atRoute σ (length old) p (e, asnsOf (pathOf e line)) j)
 
@@ -152,30 +123,30 @@ module _ (σ : State) (p : NetworkPrefix) (e : RouteEntry) (line : List ℕ) (j 
 
   pub refuses-7 : put ≡ TooFew → Answers step old (TooFewPlaces σ) new
   refuses-7 k =
-      let few : leb (length (asnsOf path)) (length old) ≡ false = too-few (asnsOf path) old (sym (wrote .0) ∙ k) in
-      by-path (refused 7, σ) (rw few (stays σ 7)) (TooFewPlaces σ) refl (wrote .1 ∙ put-nothing (asnsOf path) old few)
+      let few : leb (length (asnsOf path)) (length old) ≡ false = few-told (asnsOf path) old (sym (wrote .0) ∙ k) in
+      by-path (refused 7, σ) (rw few (stays σ 7)) (TooFewPlaces σ) refl (wrote .1 ∙ few-kept (asnsOf path) old few)
 
   module _ (n : ℕ) (k : put ≡ Wrote n) where
     fits : leb (length (asnsOf path)) (length old) ≡ true
-    fits = enough (asnsOf path) old n (sym (wrote .0) ∙ k) .0
+    fits = all-told (asnsOf path) old n (sym (wrote .0) ∙ k) .0
 
     counted : n ≡ length (asnsOf path)
-    counted = enough (asnsOf path) old n (sym (wrote .0) ∙ k) .1
+    counted = all-told (asnsOf path) old n (sym (wrote .0) ∙ k) .1
 
     laid : new ≡ asnsOf path ++ drop (length (asnsOf path)) old
-    laid = wrote .1 ∙ put-all (asnsOf path) old fits
+    laid = wrote .1 ∙ all-laid (asnsOf path) old fits
 
-    front : take (length (asnsOf path)) new ≡ asnsOf path
-    front = rw laid (take-at (asnsOf path) (drop (length (asnsOf path)) old) (length (asnsOf path)) refl)
+    taken : take (length (asnsOf path)) new ≡ asnsOf path
+    taken = rw laid (take-at (asnsOf path) (drop (length (asnsOf path)) old) (length (asnsOf path)) refl)
 
     pub yields : (o : OptAsn) → o ≡ originAsn (take n new) → (y : Elem) → y ≡ elementOf σ p e n o → (s : State) → s ≡ moved σ (record { at = j; remembered = valid p })
         → Answers step old (Element y s) new
     yields o eo y ey s es =
         let made : Elem = elementOf σ p e (length (asnsOf path)) (originAsn (asnsOf path)) in
-        let origin : o ≡ originAsn (asnsOf path) = eo ∙ ap originAsn (ap (λ (k : ℕ). take k new) counted ∙ front) in
+        let origin : o ≡ originAsn (asnsOf path) = eo ∙ ap originAsn (ap (λ (k : ℕ). take k new) counted ∙ taken) in
         let same : y ≡ made = ey ∙ ap (λ (x : OptAsn). elementOf σ p e n x) origin ∙ ap (λ (k : ℕ). elementOf σ p e k (originAsn (asnsOf path))) counted in
         by-path (element (made, asnsOf path), moved σ (record { at = j; remembered = valid p })) (rw fits) (Element y s)
-        (ap (λ (v : Elem). told (Element v s) new) same ∙ ap (λ (l : List ℕ). (element (made, l), s)) front ∙ ap (λ (z : State). (element (made, asnsOf path), z)) es)
+        (ap (λ (v : Elem). told (Element v s) new) same ∙ ap (λ (l : List ℕ). (element (made, l), s)) taken ∙ ap (λ (z : State). (element (made, asnsOf path), z)) es)
         laid
 
 -- next's ways out, by what the loop reached

@@ -15,7 +15,7 @@ use Rattle.elem.specs.declared.OptAsn.{OptAsn}
 use Rattle.elem.specs.declared.OptAsn.the-variants.{Known, Nothing as NoAsn}
 use Rattle.text_dump_line.specs.declared.PrefixText.{PrefixText}
 use Rattle.text_dump_line.specs.declared.PrefixText.the-variants.{Valid as ValidText}
-use Rattle.plain_reader.specs.Rules.{nothing, invalid, valid, replace}
+use Rattle.plain_reader.specs.Rules.{Remembered as Plain, nothing, invalid, valid, replace}
 use Rattle.plain_reader.specs.Cursor.{Cursor}
 use Rattle.text_dump.specs.State.{plain, stored, cursor, moved, validRemembered, spoilt}
 use Rattle.text_dump.specs.Rules.{textOf, originAsn}
@@ -27,6 +27,15 @@ pub stored-plain : (m : Remembered) → stored (plain m) ≡ m
 stored-plain Nothing = refl
 stored-plain Invalid = refl
 stored-plain (Valid p) = refl
+
+pub plain-stored : (m : Plain NetworkPrefix) → plain (stored m) ≡ m
+plain-stored nothing = refl
+plain-stored invalid = refl
+plain-stored (valid p) = refl
+
+-- a state holds any cursor
+pub cursor-moved : (σ : State) (c : Cursor NetworkPrefix) → cursor (moved σ c) ≡ c
+cursor-moved σ c = ap (λ (m : Plain NetworkPrefix). record { at = c .at; remembered = m }) (plain-stored (c .remembered))
 
 -- a state with its own cursor is itself
 pub moved-cursor : (σ : State) → moved σ (cursor σ) ≡ σ

@@ -6,7 +6,7 @@ use mathlib.Core.List.{List, _++_}
 use lib.ListN.{length, take, drop}
 use lib.Dec.{leb}
 use Rattle.network.specs.declared.NetworkPrefix.{NetworkPrefix}
-use Rattle.text_dump_line.specs.Path.{asnsOf}
+use Rattle.path_text.specs.Path.{asnsOf}
 use Rattle.text_dump_line.specs.Line.{pathOf}
 use Rattle.plain_reader.specs.Rules.{valid, Rules}
 use Rattle.plain_reader.specs.Calls.{Answer, element, end, refused}

@@ -9,7 +9,7 @@ use Rattle.network.specs.declared.NetworkPrefix.{NetworkPrefix}
 use Rattle.elem.specs.declared.Element.{Element}
 use Rattle.elem.specs.declared.OptAsn.{OptAsn}
 use Rattle.elem.specs.declared.OptAsn.the-variants.{Known, Nothing as NoAsn}
-use Rattle.text_dump_line.specs.Path.{asnsOf}
+use Rattle.path_text.specs.Path.{asnsOf}
 use Rattle.text_dump_line.specs.Line.{lineOf, pathOf}
 use Rattle.text_dump_line.specs.declared.RouteEntry.{RouteEntry}
 use Rattle.text_dump_line.specs.declared.PrefixText.{PrefixText}

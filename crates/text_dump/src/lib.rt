@@ -6,7 +6,7 @@ ghost use Rattle.plain_reader.specs.Rules.{replace};
 ghost use Rattle.text_dump.specs.State.{plain, stored, validRemembered, spoilt, turned, moved};
 ghost use Rattle.text_dump.specs.Open.{peerIp, peerAsn, openOf, told as toldOpened};
 ghost use Rattle.text_dump.specs.Rules.{textOf, originAsn, elementOf};
-ghost use Rattle.text_dump_line.specs.Path.{asnsOf};
+ghost use Rattle.path_text.specs.Path.{asnsOf};
 ghost use Rattle.text_dump_line.specs.Line.{pathOf};
 ghost use Rattle.text_dump.specs.Next.{stepped, next as nextOf, atRoute, Answers, Reaches};
 use columns::Columns;
@@ -18,9 +18,9 @@ use network::AddressRead;
 use network::Asn;
 use network::IpAddr;
 use network::NetworkPrefix;
+use path_text::AsnsPut;
 use text_dump_header::HeaderRead;
 use text_dump_header::TextDumpHeader;
-use text_dump_line::AsnsPut;
 use text_dump_line::Line;
 use text_dump_line::PrefixText;
 use text_dump_line::RouteEntry;
@@ -247,7 +247,7 @@ impl State {
         ensures { λ r. ⌜ Answers (stepped self (atRoute self (length (now (asns .entry))) prefix (entry, asnsOf (pathOf entry (now (line .entry)))) end)) (now (asns .entry)) r (now (asns .exit)) ⌝ }
     {
         let path = text_dump_line::path_of(line, entry);
-        let AsnsPut::Wrote(count) = text_dump_line::put_asns(path, asns) else {
+        let AsnsPut::Wrote(count) = path_text::put_asns(path, asns) else {
             return Next::TooFewPlaces(self);
         };
         let origin_asn = origin_asn(asns, count);

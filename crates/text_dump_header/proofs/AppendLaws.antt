@@ -13,6 +13,7 @@ use Rattle.columns.specs.Columns.{areRising}
 use Rattle.columns.proofs.Laws.{header-rises}
 use Rattle.columns.specs.declared.Columns.{Columns}
 use Rattle.columns.specs.declared.ColumnsRead.{ColumnsRead}
+use Rattle.columns.proofs.Laws.{none-found}
 use Rattle.columns.specs.declared.ColumnsRead.the-variants.{Found, Nothing as NoColumns}
 use Rattle.text_dump_header.specs.Header.{columnsOf, isFound, through, unreadableLine, preambleOf, lastColumns, total, headerOf, answer, headerFrom, missing, header}
 use Rattle.text_dump_header.specs.declared.Preamble.{Preamble}
@@ -21,9 +22,6 @@ use Rattle.text_dump_header.specs.declared.HeaderRead.the-variants.{Head
 use Rattle.text_dump_header.proofs.HeaderLaws.{last-passed}
 
 -- the lines that the scan meets, where a column header is among the first n, with lines behind them
-none-found : (A : Type 0) (c : Columns) → NoColumns ≡ Found c → A
-none-found A c e = let z : _≡_ {A = ℕ} 0 1 = cc in absurd (omega arith)
-
 met-already : (n : ℕ) (ls ms : List (List ℕ)) (c : Columns) → lastColumns (through (take n ls)) ≡ Found c → through (take n (ls ++ ms)) ≡ through (take n ls)
 unfolding through lastColumns
 met-already zero ls ms c e = refl

@@ -1,4 +1,2 @@
 pub mod LineLaws
-pub mod PathLaws
-pub mod OriginLaws
 pub mod PrefixLaws

@@ -29,7 +29,7 @@ use Rattle.columns.specs.Columns.{shiftLeft}
 use Rattle.columns.specs.declared.Columns.{Columns}
 use Rattle.columns.specs.declared.ColumnsRead.{ColumnsRead}
 use Rattle.columns.specs.declared.ColumnsRead.the-variants.{Found, Nothing as NoColumns}
-use Rattle.text_dump_line.specs.Path.{originOf}
+use Rattle.path_text.specs.Path.{originOf}
 use Rattle.text_dump_line.specs.Line.{slice, column, displayed, prefixAs, prefixText, pathStart, entryOf, pathOf, routeTo, routeOf, routeIf, anyRoute, wrappedOf, lineFrom, lineOf}
 use Rattle.elem.specs.declared.OptOrigin.{OptOrigin}
 use Rattle.text_dump_line.specs.declared.PrefixText.{PrefixText}

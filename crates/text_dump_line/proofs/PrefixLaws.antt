@@ -8,13 +8,12 @@ use lib.Dec.{leb}
 use Rattle.utf8.specs.Utf8.{readable}
 use Rattle.text.specs.White.{trimEnd}
 use Rattle.network.specs.Address.{readAddress}
-use Rattle.network.specs.Prefix.{readPrefix, validPrefix}
+use Rattle.network.specs.Prefix.{readPrefix}
 use Rattle.network.specs.declared.NetworkPrefix.{NetworkPrefix}
 use Rattle.network.specs.declared.AddressRead.{AddressRead}
 use Rattle.network.specs.declared.AddressRead.the-variants.{Address, Nothing as NoAddress}
 use Rattle.network.specs.declared.PrefixRead.{PrefixRead}
 use Rattle.network.specs.declared.PrefixRead.the-variants.{Prefix, Nothing as NoPrefix}
-use Rattle.network.proofs.Valid.{read-valid}
 use Rattle.columns.specs.Columns.{shiftLeft}
 use Rattle.columns.specs.declared.Columns.{Columns}
 use Rattle.columns.specs.declared.ColumnsRead.{ColumnsRead}
@@ -102,10 +101,3 @@ module _ (Holds : NetworkPrefix → Type 0) where
         all : (b : Bool) → Brings-line (cond b (lineFrom c (trimEnd s)) Unreadable)
         all true = go (anyRoute c (trimEnd s)) (brings-any c (trimEnd s)) (wrappedOf (c .«next_hop») (trimEnd s)) (brings-wrapped (c .«next_hop») (trimEnd s))
         all false = tt
-
--- it has a length that its address can have
-abbrev pub Valid-line : Line → Type 0
-Valid-line = Brings-line (λ (p : NetworkPrefix). validPrefix p ≡ true)
-
-pub line-valid : (c : Columns) (s : List ℕ) → Valid-line (lineOf c s)
-line-valid = line-brings (λ (p : NetworkPrefix). validPrefix p ≡ true) read-valid

@@ -1,23 +1,17 @@
 // What one body line says.
 ghost use mathlib.Core.Path.{_≡_};
-ghost use Prim.Native.Nat.{_≤_};
-ghost use lib.ListN.{length, drop};
-ghost use mathlib.Core.List.{_++_};
 ghost use Rattle.text.specs.White.{trimEnd};
 ghost use Rattle.decimal.specs.Decimal.{readU32};
 ghost use Rattle.network.specs.Address.{readAddress};
-ghost use Rattle.text_dump_line.specs.Path.{lastToken, letter, originOf, asnsOf, putAnswer, putList};
 ghost use Rattle.text_dump_line.specs.Line.{slice as sliceOf, pathOf, column as columnOf, displayed, prefixText, pathStart, entryOf, routeOf, anyRoute, wrappedOf, lineOf};
 use columns::Columns;
 use columns::ColumnsRead;
 use decimal::U32Read;
 use elem::OptOrigin;
-use elem::Origin;
 use network::AddressRead;
 use network::IpAddr;
 use network::NetworkPrefix;
 use network::PrefixRead;
-use text::Token;
 
 pub enum PrefixText {
     Blank,
@@ -94,59 +88,6 @@ fn is_displayed(t: &[u8]) -> bool
     scan::starts_with(text::trim_start(t), b"Displayed")
 }
 
-fn last_token(s: &[u8]) -> &[u8]
-    ensures { λ r. ⌜ now r ≡ lastToken (now (s .entry)) ⌝ }
-{
-    let mut last = &s[..0];
-    let mut at = 0;
-    loop {
-        let Token::At(a, b) = text::next_token(s, at) else {
-            return last;
-        };
-        last = &s[a..b];
-        at = b;
-    }
-}
-
-fn letter_of(w: &[u8]) -> OptOrigin
-    ensures { λ r. ⌜ r ≡ letter (now (w .entry)) ⌝ }
-{
-    if scan::same(w, b"i") {
-        return OptOrigin::Known(Origin::IGP);
-    }
-    if scan::same(w, b"e") {
-        return OptOrigin::Known(Origin::EGP);
-    }
-    if scan::same(w, b"?") {
-        return OptOrigin::Known(Origin::INCOMPLETE);
-    }
-    OptOrigin::Nothing
-}
-
-// Most parts end in a space and a letter, which two bytes tell.
-fn origin_of(s: &[u8]) -> OptOrigin
-    ensures { λ r. ⌜ r ≡ originOf (now (s .entry)) ⌝ }
-{
-    let n = s.len();
-    if n < 2 {
-        return letter_of(last_token(s));
-    }
-    if s[n - 2] != b' ' {
-        return letter_of(last_token(s));
-    }
-    let b = s[n - 1];
-    if b == b'i' {
-        return OptOrigin::Known(Origin::IGP);
-    }
-    if b == b'e' {
-        return OptOrigin::Known(Origin::EGP);
-    }
-    if b == b'?' {
-        return OptOrigin::Known(Origin::INCOMPLETE);
-    }
-    letter_of(last_token(s))
-}
-
 // Where the path's part starts: at the column, or at the end where there is no slice.
 fn path_start(t: &[u8], path: usize) -> usize
     ensures { λ r. ⌜ r ≡ pathStart path (now (t .entry)) ⌝ }
@@ -164,7 +105,7 @@ fn entry_of(t: &[u8], c: Columns, hop: IpAddr) -> RouteEntry
     let metric = number_at(t, c.metric, c.local_pref);
     let local_pref = number_at(t, c.local_pref, c.weight);
     let path_start = path_start(t, c.path);
-    let origin = origin_of(&t[path_start..]);
+    let origin = path_text::origin_of(&t[path_start..]);
     RouteEntry {
         next_hop: hop,
         metric,
@@ -249,58 +190,4 @@ pub fn path_of(line: &[u8], entry: RouteEntry) -> &[u8]
         return &line[start..];
     }
     &line[start..end]
-}
-
-// How many AS numbers a path's part has.
-pub fn count_asns(part: &[u8]) -> usize
-    ensures { λ r. ⌜ r ≡ length (asnsOf (now (part .entry))) ⌝ }
-{
-    let mut at = 0;
-    let mut count: usize = 0;
-    loop {
-        let Token::At(a, b) = text::next_token(part, at) else {
-            return count;
-        };
-        at = b;
-        if let U32Read::Number(_) = decimal::read_u32(&part[a..b]) {
-            count += 1;
-        }
-    }
-}
-
-fn write_asns(part: &[u8], out: &mut [u32]) -> usize
-    requires { ⌜ length (asnsOf (now part)) ≤ length (now out) ⌝ }
-    ensures { λ r. ⌜ (r ≡ length (asnsOf (now (part .entry)))) × (now (out .exit) ≡ asnsOf (now (part .entry)) ++ drop (length (asnsOf (now (part .entry)))) (now (out .entry))) ⌝ }
-{
-    let mut at = 0;
-    let mut n: usize = 0;
-    loop {
-        let Token::At(a, b) = text::next_token(part, at) else {
-            return n;
-        };
-        at = b;
-        if let U32Read::Number(x) = decimal::read_u32(&part[a..b]) {
-            out[n] = x;
-            n += 1;
-        }
-    }
-}
-
-pub enum AsnsPut {
-    Wrote(usize),
-    TooFew,
-}
-
-// The AS numbers at the front of the lent list, or a refusal. Each takes a byte of the part at least: where there are as many places, they need
-// not be counted.
-pub fn put_asns(part: &[u8], out: &mut [u32]) -> AsnsPut
-    ensures { λ r. ⌜ (r ≡ putAnswer (asnsOf (now (part .entry))) (now (out .entry))) × (now (out .exit) ≡ putList (asnsOf (now (part .entry))) (now (out .entry))) ⌝ }
-{
-    if part.len() <= out.len() {
-        return AsnsPut::Wrote(write_asns(part, out));
-    }
-    if out.len() < count_asns(part) {
-        return AsnsPut::TooFew;
-    }
-    AsnsPut::Wrote(write_asns(part, out))
 }

@@ -10,9 +10,9 @@ use elem::Origin;
 use network::AddressRead;
 use network::IpAddr;
 use network::NetworkPrefix;
+use path_text::AsnsPut;
 use text_dump_header::HeaderRead;
 use text_dump_header::TextDumpHeader;
-use text_dump_line::AsnsPut;
 use text_dump_line::Line;
 use text_dump_line::PrefixText;
 use text_dump_line::RouteEntry;
@@ -132,10 +132,10 @@ fn put_list(out: &mut [u8], at: usize, asns: &[u32], n: usize) -> usize {
 // The AS numbers, as put_asns puts them and count_asns counts them.
 fn put_path(out: &mut [u8], at: usize, part: &[u8]) -> usize {
     let mut asns = [0u32; 64];
-    let AsnsPut::Wrote(n) = text_dump_line::put_asns(part, &mut asns) else {
+    let AsnsPut::Wrote(n) = path_text::put_asns(part, &mut asns) else {
         return cases::put(out, at, b"too few places");
     };
-    if n != text_dump_line::count_asns(part) {
+    if n != path_text::count_asns(part) {
         return at;
     }
     put_list(out, at, &asns, n)
@@ -206,7 +206,7 @@ fn put_wrote(out: &mut [u8], r: AsnsPut) -> usize {
 
 // put_asns on lent places: the answer, and what all of them hold then.
 fn put_lent(out: &mut [u8], part: &[u8], places: &mut [u32]) -> usize {
-    let k = put_wrote(out, text_dump_line::put_asns(part, places));
+    let k = put_wrote(out, path_text::put_asns(part, places));
     cases::put_places(out, k, b",", places)
 }
 

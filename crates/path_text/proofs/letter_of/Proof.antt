@@ -1,8 +1,8 @@
 use borrow.Author.Needs.{needs}
-use Rattle.text_dump_line.proofs.PathLaws.{letter-i, letter-e, letter-mark, no-letter}
+use Rattle.path_text.proofs.PathLaws.{letter-i, letter-e, letter-mark, no-letter}
 use borrow.Author.Needs.{needs}
-use Rattle.text_dump_line.proofs.letter_of.Statement.{statement}
-use Rattle.text_dump_line.proofs.letter_of.Tie as tie
+use Rattle.path_text.proofs.letter_of.Statement.{statement}
+use Rattle.path_text.proofs.letter_of.Tie as tie
 
 ruleset laws = (letter-i, letter-e, letter-mark, no-letter)
 

@@ -1,9 +1,9 @@
 -- What the path's part of a line says (01, Body lines).
 use Prim.Native.Nat.{ℕ}
 use mathlib.Core.Bool.{Bool, true, false, cond}
-use mathlib.Core.List.{List, [], _∷_, _++_}
+use mathlib.Core.List.{List, [], _∷_}
 use mathlib.Core.Option.{Option, some, none}
-use lib.ListN.{length, drop}
+use lib.ListN.{length}
 use lib.Dec.{leb}
 use Rattle.scan.specs.Ascii.{ascii}
 use Rattle.scan.specs.Search.{equal}
@@ -14,8 +14,8 @@ use Rattle.decimal.specs.declared.U32Read.the-variants.{Number, Nothing as NoNu
 use Rattle.elem.specs.declared.Origin.the-variants.{IGP, EGP, INCOMPLETE}
 use Rattle.elem.specs.declared.OptOrigin.{OptOrigin}
 use Rattle.elem.specs.declared.OptOrigin.the-variants.{Known, Nothing}
-use Rattle.text_dump_line.specs.declared.AsnsPut.{AsnsPut}
-use Rattle.text_dump_line.specs.declared.AsnsPut.the-variants.{Wrote, TooFew}
+use Rattle.path_text.specs.declared.AsnsPut.{AsnsPut}
+use Rattle.path_text.specs.declared.AsnsPut.the-variants.{Wrote, TooFew}
 
 -- the last of some tokens, else w
 unfoldable pub lastOr : List ℕ → List (List ℕ) → List ℕ
@@ -58,10 +58,7 @@ numbers (w ∷ ws) = let l = numbers ws in ifNumber (readU32 w) l
 unfoldable pub asnsOf : List ℕ → List ℕ
 asnsOf s = numbers (takeOff (tokens s))
 
--- all of the numbers at the front of a lent list, or a refusal with the list as it was
-unfoldable pub putList : List ℕ → List ℕ → List ℕ
-putList asns out = cond (leb (length asns) (length out)) (asns ++ drop (length asns) out) out
-
+-- all of the numbers into a lent list, or a refusal
 unfoldable pub putAnswer : List ℕ → List ℕ → AsnsPut
 putAnswer asns out = cond (leb (length asns) (length out)) (Wrote (length asns)) TooFew
 

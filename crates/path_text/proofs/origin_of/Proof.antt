@@ -1,9 +1,9 @@
 use borrow.Author.Needs.{needs}
-use Rattle.text_dump_line.proofs.PathLaws.{origin-read}
-use Rattle.text_dump_line.proofs.OriginLaws.{ends-i, ends-e, ends-mark}
+use Rattle.path_text.proofs.PathLaws.{origin-read}
+use Rattle.path_text.proofs.OriginLaws.{ends-i, ends-e, ends-mark}
 use borrow.Author.Needs.{needs}
-use Rattle.text_dump_line.proofs.origin_of.Statement.{statement}
-use Rattle.text_dump_line.proofs.origin_of.Tie as tie
+use Rattle.path_text.proofs.origin_of.Statement.{statement}
+use Rattle.path_text.proofs.origin_of.Tie as tie
 
 ruleset laws = (origin-read, ends-i, ends-e, ends-mark)
 

@@ -4,10 +4,10 @@ use Prim.Native.Nat.{_-_}
 use lib.ListN.{length, drop}
 use borrow.Author.Needs.{needs}
 use Rattle.text.specs.White.{tokens}
-use Rattle.text_dump_line.specs.Path.{lastOr, lastToken}
-use Rattle.text_dump_line.proofs.PathLaws.{token-order, token-start, token-end, token-less, last-starts, last-found, last-later}
-use Rattle.text_dump_line.proofs.last_token.Statement.{statement}
-use Rattle.text_dump_line.proofs.last_token.Tie as tie
+use Rattle.path_text.specs.Path.{lastOr, lastToken}
+use Rattle.path_text.proofs.PathLaws.{token-order, token-start, token-end, token-less, last-starts, last-found, last-later}
+use Rattle.path_text.proofs.last_token.Statement.{statement}
+use Rattle.path_text.proofs.last_token.Tie as tie
 
 ruleset laws = (token-order, token-start, token-end, token-less, last-starts, last-found, last-later)
 

@@ -1,0 +1,4 @@
+pub mod TokensLaws
+pub mod PlainLaws
+pub mod PathLaws
+pub mod OriginLaws
