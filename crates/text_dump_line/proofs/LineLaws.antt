@@ -4,17 +4,18 @@ use mathlib.Core.Path.{_≡_, refl, sym, ap, _∙_}
 use mathlib.Core.Bool.{Bool, true, false, cond, not, _&&_}
 use mathlib.Core.List.{List, [], _∷_, _++_, flatten}
 use native.Mathlib.Omega.{arith}
-use lib.ListN.{length, take, drop, length-drop, drop-of-length-le}
+use lib.ListN.{length, getD, take, drop, length-drop, drop-of-length-le}
 use lib.Seq.{take-all, take-nil, take-at, drop-append-le}
-use lib.Dec.{leb}
-use borrow.Author.Tests.{le-leb, lt-leb, leb-true, not-true, not-false}
-use Rattle.utf8.specs.Utf8.{chars, readable}
+use lib.Dec.{leb, eqb}
+use borrow.Author.Tests.{le-leb, lt-leb, leb-true, eqb-true, eqb-false, ne-eqb, not-true, not-false}
+use Rattle.utf8.specs.Utf8.{within, chars, readable}
 use Rattle.utf8.specs.Edge.{isEdge, hasSlice}
 use Rattle.scan.specs.Ascii.{ascii}
-use Rattle.scan.specs.Search.{startsWith}
+use Rattle.scan.specs.Search.{equal, startsWith}
 use Rattle.text.specs.White.{isSpace, trim, trimStart, trimEnd}
 use Rattle.utf8.proofs.TestLaws.{both}
 use Rattle.text.proofs.TrimLaws.{dropped, trim-end-part}
+use Rattle.text.proofs.WhiteLaws.{front-visible, start-stop}
 use Rattle.decimal.specs.Decimal.{readU32}
 use Rattle.decimal.specs.declared.U32Read.{U32Read}
 use Rattle.network.specs.Address.{readAddress}
@@ -30,14 +31,13 @@ use Rattle.columns.specs.declared.Columns.{Columns}
 use Rattle.columns.specs.declared.ColumnsRead.{ColumnsRead}
 use Rattle.columns.specs.declared.ColumnsRead.the-variants.{Found, Nothing as NoColumns}
 use Rattle.path_text.specs.Path.{originOf}
-use Rattle.text_dump_line.specs.Line.{slice, column, displayed, prefixAs, prefixText, pathStart, entryOf, pathOf, routeTo, routeOf, routeIf, anyRoute, wrappedOf, lineFrom, lineOf}
+use Rattle.text_dump_line.specs.Line.{slice, column, displayed, prefixAs, prefixText, pathStart, entryOf, pathOf, routeTo, routeOf, anyRoute, wrappedOf, lineFrom, lineOf}
 use Rattle.elem.specs.declared.OptOrigin.{OptOrigin}
 use Rattle.text_dump_line.specs.declared.PrefixText.{PrefixText}
 use Rattle.text_dump_line.specs.declared.PrefixText.the-variants.{Blank, Invalid, Valid}
 use Rattle.text_dump_line.specs.declared.RouteEntry.{RouteEntry}
 use Rattle.text_dump_line.specs.declared.RouteRead.{RouteRead}
 use Rattle.text_dump_line.specs.declared.RouteRead.the-variants.{Route, Nothing as NoRoute}
-use Rattle.text_dump_line.specs.declared.Line.{Line}
 use Rattle.text_dump_line.specs.declared.Line.the-variants.{Unreadable, Passed, Wrapped, Route as RouteLine}
 
 -- slices
@@ -63,38 +63,61 @@ module _ (t : List ℕ) (a b : ℕ) (r : Bool) (q : r ≡ hasSlice t a b) where
   unfolding slice
   slice-missing f = rw (← q, f)
 
-pub trimmed : (t : List ℕ) (a b : ℕ) (x y : List ℕ) → x ≡ slice a b t → y ≡ trim x → y ≡ column a b t
-unfolding column
-trimmed t a b x y e f = rw (f, e)
-
--- what is read of a column
-pub address-read : (t : List ℕ) (a b : ℕ) (x : List ℕ) (r : AddressRead) → x ≡ column a b t → r ≡ readAddress x → r ≡ readAddress (column a b t)
-address-read t a b x r e f = f ∙ ap readAddress e
-
-pub number-read : (t : List ℕ) (a b : ℕ) (x : List ℕ) (r : U32Read) → x ≡ column a b t → r ≡ readU32 x → r ≡ readU32 (column a b t)
-number-read t a b x r e f = f ∙ ap readU32 e
-
-pub starts-displayed : (t x : List ℕ) (r : Bool) → x ≡ trimStart t → r ≡ startsWith x (ascii "Displayed") → r ≡ displayed t
-unfolding displayed
-starts-displayed t x r e f = rw (f, e)
-
--- the prefix text
-pub blank : (s : List ℕ) → length s ≡ 0 → Blank ≡ prefixText s
+-- the prefix text of a column
+no-text : (s : List ℕ) → length s ≡ 0 → Blank ≡ prefixText s
 unfolding prefixText
-blank [] h = refl
-blank (b ∷ s) h = absurd (omega arith)
+no-text [] h = refl
+no-text (b ∷ s) h = absurd (omega arith)
 
 some-text : (s : List ℕ) → (length s ≡ 0 → ⊥) → prefixText s ≡ prefixAs (readPrefix s)
 unfolding prefixText
 some-text [] h = absurd (h refl)
 some-text (b ∷ s) h = refl
 
-module _ (s : List ℕ) (h : length s ≡ 0 → ⊥) (r : PrefixRead) (q : r ≡ readPrefix s) where
-  pub valid : (p : NetworkPrefix) → r ≡ Prefix p → Valid p ≡ prefixText s
-  valid p f = sym (some-text s h ∙ ap prefixAs (sym q ∙ f))
+-- what is read of a column, by what is read of its slice
+module _ (t : List ℕ) (a b : ℕ) (x : List ℕ) (e : x ≡ slice a b t) where
+  trimmed : trim x ≡ column a b t
+  unfolding column
+  trimmed = rw e
 
-  pub invalid : r ≡ NoPrefix → Invalid ≡ prefixText s
-  invalid f = sym (some-text s h ∙ ap prefixAs (sym q ∙ f))
+  pub address-read : (r : AddressRead) → r ≡ readAddress (trim x) → r ≡ readAddress (column a b t)
+  address-read r f = f ∙ ap readAddress trimmed
+
+  pub number-read : (r : U32Read) → r ≡ readU32 (trim x) → r ≡ readU32 (column a b t)
+  number-read r f = f ∙ ap readU32 trimmed
+
+  pub prefix-read : (r : PrefixRead) → r ≡ readPrefix (trim x) → r ≡ readPrefix (column a b t)
+  prefix-read r f = f ∙ ap readPrefix trimmed
+
+  -- the prefix text
+  module _ (z : Bool) (q : z ≡ eqb (length (trim x)) 0) where
+    pub blank : z ≡ true → Blank ≡ prefixText (column a b t)
+    blank f = no-text (column a b t) (ap length (sym trimmed) ∙ eqb-true (length (trim x)) 0 (sym q ∙ f))
+
+    module _ (n : z ≡ false) (r : PrefixRead) (h : r ≡ readPrefix (trim x)) where
+      text : prefixText (column a b t) ≡ prefixAs r
+      text =
+          some-text (column a b t) (λ y. eqb-false (length (trim x)) 0 (sym q ∙ n) (ap length trimmed ∙ y))
+          ∙ ap prefixAs (sym (prefix-read r h))
+
+      pub valid : (p : NetworkPrefix) → r ≡ Prefix p → Valid p ≡ prefixText (column a b t)
+      valid p f = sym (text ∙ ap prefixAs f)
+
+      pub invalid : r ≡ NoPrefix → Invalid ≡ prefixText (column a b t)
+      invalid f = sym (text ∙ ap prefixAs f)
+
+pub starts-displayed : (t x : List ℕ) (r : Bool) → x ≡ trimStart t → r ≡ startsWith x (ascii "Displayed") → r ≡ displayed t
+unfolding displayed
+starts-displayed t x r e f = rw (f, e)
+
+-- a visible byte at the front is not trimmed
+pub starts-otherwise : (t : List ℕ) → 0 < length t → (getD t 0 0 ≡ 68 → ⊥) → within 0x21 0x7E (getD t 0 0) ≡ true → false ≡ displayed t
+unfolding displayed equal
+starts-otherwise t h n v = go t h n ∙ ap (λ x. startsWith x (ascii "Displayed")) (sym (start-stop t 0 (front-visible t h v) refl))
+  where
+    go : (t : List ℕ) → 0 < length t → (getD t 0 0 ≡ 68 → ⊥) → false ≡ startsWith t (ascii "Displayed")
+    go [] h n = absurd (omega arith)
+    go (b ∷ t) h n = simp (ne-eqb b 68 n)
 
 -- the path's part
 module _ (t : List ℕ) (path : ℕ) (r : Bool) (q : r ≡ hasSlice t path (length t)) where
@@ -159,10 +182,10 @@ module _ (t : List ℕ) (c : Columns) (d : Bool) (qd : d ≡ displayed t) where
     pub no-address : r ≡ NoAddress → NoRoute ≡ routeOf c t
     no-address f = sym (by-address ∙ rw f)
 
-    pub route : (hop : IpAddr) → r ≡ Address hop → (x : List ℕ) → x ≡ column 3 (c .«next_hop») t → (p : PrefixText) → p ≡ prefixText x
+    pub route : (hop : IpAddr) → r ≡ Address hop → (p : PrefixText) → p ≡ prefixText (column 3 (c .«next_hop») t)
         → (e : RouteEntry) → e ≡ entryOf c hop t → Route p e ≡ routeOf c t
-    route hop f x ex p ep e ee =
-        let w : Route p e ≡ routeTo c t (Address hop) = rw (ee, ep, ex) in
+    route hop f p ep e ee =
+        let w : Route p e ≡ routeTo c t (Address hop) = rw (ee, ep) in
         w ∙ sym (by-address ∙ ap (routeTo c t) f)
 
 -- by the columns, else by those shifted
@@ -188,9 +211,9 @@ pub too-long : (t : List ℕ) (n : ℕ) → n < length t → NoPrefix ≡ wrappe
 unfolding wrappedOf
 too-long t n h = rw (lt-leb (length t) n h)
 
-pub wrapped : (t : List ℕ) (n : ℕ) → length t ≤ n → (x : List ℕ) → x ≡ column 3 (length t) t → (r : PrefixRead) → r ≡ readPrefix x → r ≡ wrappedOf n t
+pub wrapped : (t : List ℕ) (n : ℕ) → length t ≤ n → (x : List ℕ) → x ≡ slice 3 (length t) t → (r : PrefixRead) → r ≡ readPrefix (trim x) → r ≡ wrappedOf n t
 unfolding wrappedOf
-wrapped t n h x e r f = rw (le-leb (length t) n h) (f ∙ ap readPrefix e)
+wrapped t n h x e r f = rw (le-leb (length t) n h) (prefix-read t 3 (length t) x e r f)
 
 -- the whole line
 module _ (s : List ℕ) (c : Columns) (b : Bool) (qb : b ≡ readable s) where

@@ -52,39 +52,43 @@ fn slice(t: &[u8], a: usize, b: usize) -> &[u8]
     }
 }
 
-fn column(t: &[u8], a: usize, b: usize) -> &[u8]
-    ensures { λ r. ⌜ now r ≡ columnOf a b (now (t .entry)) ⌝ }
-{
-    text::trim(slice(t, a, b))
-}
-
 fn address_at(t: &[u8], a: usize, b: usize) -> AddressRead
     ensures { λ r. ⌜ r ≡ readAddress (columnOf a b (now (t .entry))) ⌝ }
 {
-    network::read_address(column(t, a, b))
+    fields::read_address(slice(t, a, b))
 }
 
 fn number_at(t: &[u8], a: usize, b: usize) -> U32Read
     ensures { λ r. ⌜ r ≡ readU32 (columnOf a b (now (t .entry))) ⌝ }
 {
-    decimal::read_u32(column(t, a, b))
+    fields::read_number(slice(t, a, b))
 }
 
-fn prefix_text(s: &[u8]) -> PrefixText
-    ensures { λ r. ⌜ r ≡ prefixText (now (s .entry)) ⌝ }
+fn prefix_at(t: &[u8], a: usize, b: usize) -> PrefixText
+    ensures { λ r. ⌜ r ≡ prefixText (columnOf a b (now (t .entry))) ⌝ }
 {
-    if s.len() == 0 {
+    let s = slice(t, a, b);
+    if fields::is_blank(s) {
         return PrefixText::Blank;
     }
-    let PrefixRead::Prefix(p) = network::read_prefix(s) else {
+    let PrefixRead::Prefix(p) = fields::read_prefix(s) else {
         return PrefixText::Invalid;
     };
     PrefixText::Valid(p)
 }
 
+// Most lines begin with a visible byte that is no 'D', which one byte tells.
 fn is_displayed(t: &[u8]) -> bool
     ensures { λ r. ⌜ r ≡ displayed (now (t .entry)) ⌝ }
 {
+    if 0 < t.len() {
+        let b = t[0];
+        if b != b'D' {
+            if (0x21 <= b) & (b <= 0x7E) {
+                return false;
+            }
+        }
+    }
     scan::starts_with(text::trim_start(t), b"Displayed")
 }
 
@@ -125,7 +129,7 @@ fn route_in(t: &[u8], c: Columns) -> RouteRead
     let AddressRead::Address(next_hop) = address_at(t, c.next_hop, c.metric) else {
         return RouteRead::Nothing;
     };
-    let prefix = prefix_text(column(t, 3, c.next_hop));
+    let prefix = prefix_at(t, 3, c.next_hop);
     RouteRead::Route(prefix, entry_of(t, c, next_hop))
 }
 
@@ -155,7 +159,7 @@ pub fn parse_wrapped_prefix_line(line: &[u8], next_hop: usize) -> PrefixRead
     if next_hop < line.len() {
         return PrefixRead::Nothing;
     }
-    network::read_prefix(column(line, 3, line.len()))
+    fields::read_prefix(slice(line, 3, line.len()))
 }
 
 pub fn line_of(line: &[u8], columns: Columns) -> Line

@@ -1,0 +1,52 @@
+use mathlib.Core.Path.{_≡_}
+use Prim.Native.Nat.{_-_, _≤_}
+use lib.ListN.{take, drop}
+use Rattle.utf8.specs.Utf8.{all}
+use Rattle.fields.specs.Fronts.{isBlank}
+use Rattle.fields.proofs.SpaceLaws.{near-none, near-more, near-all}
+use borrow.Author.Needs.{needs}
+use Rattle.fields.proofs.spaces_near.Statement.{statement}
+use Rattle.fields.proofs.spaces_near.Tie as tie
+
+ruleset laws = (near-none, near-more, near-all)
+
+abbrev Inv-loop : tie.InvT-loop
+Inv-loop s at near₀ k₀ near k = (k ≤ 8) × (near ≡ all isBlank (take k (drop at s)))
+
+abbrev μ-loop : tie.MeasureT-loop
+μ-loop s at near₀ k₀ near k = 8 - k
+
+loop-holds : tie.Need-loop-holds Inv-loop μ-loop
+loop-holds c = search (laws, needs)
+
+add-near : tie.Need-add-near Inv-loop μ-loop
+add-near c = search (laws, needs)
+
+shared-slice-read-near : tie.Need-shared-slice-read-near Inv-loop μ-loop
+shared-slice-read-near c = search (laws, needs)
+
+add-k : tie.Need-add-k Inv-loop μ-loop
+add-k c = search (laws, needs)
+
+loop-less : tie.Need-loop-less Inv-loop μ-loop
+loop-less c = search (laws, needs)
+
+loop-again : tie.Need-loop-again Inv-loop μ-loop
+loop-again c = search (laws, needs)
+
+returns : tie.Need-returns Inv-loop μ-loop
+returns c = search (laws, needs)
+
+pub spaces-near-spec : {M : Type 1} → statement M
+spaces-near-spec =
+    tie.close
+    (tie.spec
+    Inv-loop
+    μ-loop
+    loop-holds
+    add-near
+    shared-slice-read-near
+    add-k
+    loop-less
+    loop-again
+    returns)
