@@ -1,4 +1,5 @@
 pub mod Power
 pub mod Laws
 pub mod Reading
+pub mod Leading
 pub mod Starred

@@ -3,11 +3,14 @@ use Prim.Native.Nat.{ℕ, _+_, _-_, _*_, _^_}
 use mathlib.Core.List.{List, [], _∷_}
 use mathlib.Core.Bool.{Bool, cond, _&&_}
 use mathlib.Core.Option.{Option, some, none}
+use lib.ListN.{length, drop}
 use lib.Dec.{ltb, leb, eqb}
 use Rattle.decimal.specs.declared.U32Read.{U32Read}
 use Rattle.decimal.specs.declared.U32Read.the-variants.{Number as Number32, Nothing as Nothing32}
 use Rattle.decimal.specs.declared.U64Read.{U64Read}
 use Rattle.decimal.specs.declared.U64Read.the-variants.{Number as Number64, Nothing as Nothing64}
+use Rattle.decimal.specs.declared.DigitsRead.{DigitsRead}
+use Rattle.decimal.specs.declared.DigitsRead.the-variants.{Digits, Many}
 
 -- '0' to '9'
 abbrev pub isDigit : ℕ → Bool
@@ -51,3 +54,16 @@ readU32 s = as32 (below (2 ^ 32) (unsigned s))
 
 abbrev pub readU64 : List ℕ → U64Read
 readU64 s = as64 (below (2 ^ 64) (unsigned s))
+
+-- the digits at the front, for texts that are read up to where their digits end
+unfoldable pub leading : List ℕ → List ℕ
+leading [] = []
+leading (b ∷ s) = let r = leading s in cond (isDigit b) (b ∷ r) []
+
+abbrev pub orZero : Option ℕ → ℕ
+orZero (some n) = n
+orZero none = 0
+
+-- those from the place i on: what they make (0 where there are none), and the place behind them
+unfoldable pub digitsAt : List ℕ → ℕ → DigitsRead
+digitsAt s i = let d = leading (drop i s) in cond (leb (length d) 9) (Digits (orZero (behind 0 d)) (i + length d)) Many

@@ -2,7 +2,7 @@
 ghost use mathlib.Core.Path.{_≡_};
 ghost use Prim.Native.Nat.{_≤_};
 ghost use lib.ListN.{length};
-ghost use Rattle.decimal.specs.Decimal.{readDigits, readU32, readU64};
+ghost use Rattle.decimal.specs.Decimal.{readDigits, readU32, readU64, digitsAt};
 
 pub enum U32Read {
     Number(u32),
@@ -104,4 +104,33 @@ pub fn read_u32(s: &[u8]) -> U32Read
     } else {
         U32Read::Nothing
     }
+}
+
+// What some digits make, and the place behind them.
+pub enum DigitsRead {
+    Digits(u32, usize),
+    Many,
+}
+
+// The digits from `at` on, where they are at most nine: none of these numbers is too large, so a text can be read up to where its digits end.
+pub fn digits_at(s: &[u8], at: usize) -> DigitsRead
+    ensures { λ r. ⌜ r ≡ digitsAt (now (s .entry)) at ⌝ }
+{
+    let mut i = at;
+    let mut v: u32 = 0;
+    while i < s.len() {
+        let b = s[i];
+        if b < b'0' {
+            return DigitsRead::Digits(v, i);
+        }
+        if b'9' < b {
+            return DigitsRead::Digits(v, i);
+        }
+        if 9 <= i - at {
+            return DigitsRead::Many;
+        }
+        v = v * 10 + (b as u32 - 48);
+        i += 1;
+    }
+    DigitsRead::Digits(v, i)
 }

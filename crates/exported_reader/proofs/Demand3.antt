@@ -20,7 +20,7 @@ use Rattle.plain_reader.specs.Demand.{Demand3}
 use Rattle.plain_reader.specs.Cursor.{Cursor, to-start, next-at}
 use Rattle.plain_reader.specs.Refinement.{Sound, Fits-prefix, Implements, Accepts}
 use Rattle.plain_reader.proofs.Demand3 as theory
-use Rattle.text_dump.specs.State.{plain, stored, cursor, moved}
+use Rattle.text_dump.specs.State.{cursor, moved}
 use Rattle.text_dump.specs.Rules.{WithAsns, rules}
 use Rattle.text_dump.specs.Next.{Step, stepped, next, lent}
 use Rattle.text_dump.specs.declared.State.{State}

@@ -1,5 +1,5 @@
 -- What the quick ways may say: that an octet, an address, a length, a number stands at a place. Where they say nothing, nothing is known.
-use Prim.Native.Nat.{ℕ, _+_, _-_, _^_, _≤_, _<_}
+use Prim.Native.Nat.{ℕ, _+_, _-_, _≤_, _<_}
 use mathlib.Core.Path.{_≡_}
 use mathlib.Core.Bool.{Bool, true, cond}
 use mathlib.Core.List.{List}
@@ -7,7 +7,7 @@ use mathlib.Core.Option.{some}
 use lib.ListN.{length, getD, take}
 use lib.Seq.{slice}
 use lib.Dec.{eqb}
-use Rattle.decimal.specs.Decimal.{isDigit, digits}
+use Rattle.decimal.specs.Decimal.{isDigit}
 use Rattle.ipv4.specs.Ipv4.{octet, ipv4}
 use Rattle.network.specs.Prefix.{lengthOf}
 use Rattle.fields.specs.declared.OctetRead.{OctetRead}
@@ -16,8 +16,6 @@ use Rattle.fields.specs.declared.FrontRead.{FrontRead}
 use Rattle.fields.specs.declared.FrontRead.the-variants.{Address}
 use Rattle.fields.specs.declared.BitsRead.{BitsRead}
 use Rattle.fields.specs.declared.BitsRead.the-variants.{Bits}
-use Rattle.fields.specs.declared.DigitsRead.{DigitsRead}
-use Rattle.fields.specs.declared.DigitsRead.the-variants.{Digits}
 
 -- the space that columns are filled with
 abbrev pub isBlank : ℕ → Bool
@@ -59,12 +57,3 @@ pub record Bits-at (s : List ℕ) (a f n : ℕ) : Type 0 where
 
 pub record Told-bits (s : List ℕ) (a : ℕ) (r : BitsRead) : Type 0 where
   pub bits-told : (n f : ℕ) → r ≡ Bits n f → Bits-at s a f n
-
--- the number v of at most nine digits stands at the front, up to e
-pub record Number-to (s : List ℕ) (e v : ℕ) : Type 0 where
-  pub around : Digits-around s 0 e
-  pub small : v < 10 ^ 9
-  pub value : digits (take e s) ≡ some v
-
-pub record Told-digits (s : List ℕ) (r : DigitsRead) : Type 0 where
-  pub digits-told : (v e : ℕ) → r ≡ Digits v e → 0 < e → Number-to s e v

@@ -9,7 +9,8 @@ ghost use Rattle.text.specs.White.{trim as trimOf};
 ghost use Rattle.decimal.specs.Decimal.{readU32};
 ghost use Rattle.network.specs.Address.{readAddress};
 ghost use Rattle.network.specs.Prefix.{readPrefix};
-ghost use Rattle.fields.specs.Fronts.{isBlank, digitOr10, Told-octet, Told-address, Told-bits, Told-digits};
+ghost use Rattle.fields.specs.Fronts.{isBlank, digitOr10, Told-octet, Told-address, Told-bits};
+use decimal::DigitsRead;
 use decimal::U32Read;
 use network::AddressRead;
 use network::IpAddr;
@@ -31,12 +32,6 @@ enum FrontRead {
 // The length behind an address, and the place behind its digits.
 enum BitsRead {
     Bits(u8, usize),
-    Nothing,
-}
-
-// A number at the front of a text, and the place behind its digits.
-enum DigitsRead {
-    Digits(u32, usize),
     Nothing,
 }
 
@@ -186,31 +181,11 @@ pub fn is_blank(s: &[u8]) -> bool
     text::trim_start(s).len() == 0
 }
 
-// The number that up to nine digits at the front make, and the place behind them.
-fn digits_front(s: &[u8]) -> DigitsRead
-    ensures { λ r. ⌜ Told-digits (now (s .entry)) r ⌝ }
-{
-    let mut v: u32 = 0;
-    let mut i = 0;
-    while i < s.len() {
-        let d = digit(s[i]);
-        if 9 < d {
-            return DigitsRead::Digits(v, i);
-        }
-        if 9 <= i {
-            return DigitsRead::Nothing;
-        }
-        v = v * 10 + d;
-        i += 1;
-    }
-    DigitsRead::Digits(v, i)
-}
-
 // A number whose digits mostly stand at the front.
 fn number_in(s: &[u8]) -> U32Read
     ensures { λ r. ⌜ r ≡ readU32 (trimOf (now (s .entry))) ⌝ }
 {
-    if let DigitsRead::Digits(v, n) = digits_front(s) {
+    if let DigitsRead::Digits(v, n) = decimal::digits_at(s, 0) {
         if 0 < n {
             if all_spaces(s, n) {
                 return U32Read::Number(v);

@@ -7,6 +7,7 @@ ghost use lib.Dec.{leb};
 ghost use Rattle.output.specs.Output.{front};
 ghost use Rattle.path_text.specs.Path.{lastToken, letter, originOf, asnsOf, putAnswer};
 ghost use Rattle.path_text.specs.Walk.{lone, IsPlain, Finds};
+use decimal::DigitsRead;
 use decimal::U32Read;
 use elem::OptOrigin;
 use elem::Origin;
@@ -75,29 +76,19 @@ enum Plain {
 fn plain_number(part: &[u8], at: usize) -> Plain
     ensures { λ r. ⌜ IsPlain (now (part .entry)) at r ⌝ }
 {
-    let mut v: u32 = 0;
-    let mut i = at;
-    while i < part.len() {
-        let b = part[i];
-        if b < b'0' {
-            if b != b' ' {
-                return Plain::Other;
-            }
-            if i == at {
-                return Plain::Other;
-            }
-            return Plain::Number(v, i + 1);
-        }
-        if b'9' < b {
-            return Plain::Other;
-        }
-        if 9 <= i - at {
-            return Plain::Other;
-        }
-        v = v * 10 + (b as u32 - 48);
-        i += 1;
+    let DigitsRead::Digits(v, end) = decimal::digits_at(part, at) else {
+        return Plain::Other;
+    };
+    if end <= at {
+        return Plain::Other;
     }
-    Plain::Other
+    if part.len() <= end {
+        return Plain::Other;
+    }
+    if part[end] != b' ' {
+        return Plain::Other;
+    }
+    Plain::Number(v, end + 1)
 }
 
 // Is one byte left that is no digit? So the origin stands at most paths' end.

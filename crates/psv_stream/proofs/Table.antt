@@ -21,14 +21,14 @@ use Rattle.network.proofs.Valid.{read-valid}
 use Rattle.plain_reader.specs.Lists.{Each}
 use Rattle.plain_reader.specs.Rules.{Remembered, nothing, invalid, valid, unreadable, passed, wrapped, route, replace}
 use Rattle.plain_reader.specs.Rules.{Line as Plain}
-use Rattle.plain_reader.specs.Calls.{Answer, element, end, refused}
+use Rattle.plain_reader.specs.Calls.{Answer, element, end}
 use Rattle.plain_reader.specs.Plain.{take-line, take-lines}
 use Rattle.plain_reader.specs.Elements.{after-line, routes, under, yielded, alone, Suffices}
 use Rattle.plain_reader.specs.Cursor.{view, located}
 use Rattle.plain_reader.proofs.ListLaws.{flatten-append}
-use Rattle.plain_reader.specs.Refinement.{Fits-prefix, Fits-line}
+use Rattle.plain_reader.specs.Refinement.{Fits-prefix}
 use Rattle.text_dump.specs.State.{plain, moved, turned, cursor}
-use Rattle.text_dump.specs.Rules.{said, rules, elementOf, originAsn, WithAsns}
+use Rattle.text_dump.specs.Rules.{rules, elementOf, originAsn, WithAsns}
 use Rattle.text_dump.specs.Rules.{Route as RouteData}
 use Rattle.text_dump.specs.Next.{next, stepped}
 use Rattle.text_dump.specs.declared.State.{State}

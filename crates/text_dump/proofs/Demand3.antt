@@ -1,8 +1,8 @@
 -- Demand 3 of opening, next and turn.
-use Prim.Native.Nat.{ℕ, _≤_}
+use Prim.Native.Nat.{ℕ}
 use mathlib.Core.Path.{_≡_, refl, sym, ap, _∙_}
-use mathlib.Core.Bool.{Bool, true, false, not, _||_, cond}
-use mathlib.Core.List.{List, [], _∷_, _++_, map, tail}
+use mathlib.Core.Bool.{true, false, not}
+use mathlib.Core.List.{List, [], _∷_, tail}
 use lib.ListN.{length, drop}
 use lib.Dec.{ltb}
 use lib.Ieee.{Float}
@@ -14,17 +14,17 @@ use Rattle.network.specs.Prefix.{validPrefix}
 use Rattle.network.specs.declared.NetworkPrefix.{NetworkPrefix}
 use Rattle.network.proofs.Valid.{read-valid}
 use Rattle.plain_reader.specs.Lists.{Each}
-use Rattle.plain_reader.specs.Rules.{Remembered as Plain, nothing, invalid, valid}
+use Rattle.plain_reader.specs.Rules.{nothing, valid}
 use Rattle.plain_reader.specs.Calls.{Call, end}
 use Rattle.plain_reader.specs.Elements.{Readable, yielded, classified}
 use Rattle.plain_reader.specs.Demand.{Demand3}
-use Rattle.plain_reader.specs.Cursor.{Cursor, view, after-header, next-at}
-use Rattle.plain_reader.specs.Refinement.{Sound, Fits-prefix, Fits-line, Implements, Accepts}
+use Rattle.plain_reader.specs.Cursor.{view, next-at}
+use Rattle.plain_reader.specs.Refinement.{Sound, Fits-prefix, Implements, Accepts}
 use Rattle.plain_reader.proofs.Demand3 as theory
 use Rattle.plain_reader.proofs.End.{plain-end}
-use Rattle.text_dump.specs.State.{plain, stored, cursor, moved, turned, validRemembered, spoilt}
-use Rattle.text_dump.specs.Open.{opened, openOf, accepted, Opening}
-use Rattle.text_dump.specs.Rules.{said, rules}
+use Rattle.text_dump.specs.State.{plain, cursor, moved, validRemembered, spoilt}
+use Rattle.text_dump.specs.Open.{opened, openOf, accepted}
+use Rattle.text_dump.specs.Rules.{rules}
 use Rattle.text_dump.specs.Next.{stepped, next}
 use Rattle.text_dump.specs.Reader.{reader, opening}
 use Rattle.text_dump.specs.declared.Remembered.{Remembered}

@@ -1,15 +1,14 @@
 -- What next answers, case by case.
 use Prim.Native.Nat.{ℕ, _-_, _≤_, _<_}
 use mathlib.Core.Path.{_≡_, refl, sym, ap, subst, _∙_}
-use mathlib.Core.Bool.{Bool, true, false, cond}
+use mathlib.Core.Bool.{Bool, true, false}
 use mathlib.Core.List.{List, [], _∷_, _++_}
 use mathlib.Core.Logic.{⊎-elim}
-use mathlib.Core.Option.{some, none}
 use native.Mathlib.Omega.{arith}
 use types.Run.{OneOf}
 use denote.Enum.Declared.{tagOf}
 use Rattle.text_dump.proofs.Remembered.{the-type}
-use lib.ListN.{length, length-append, take, drop}
+use lib.ListN.{length, take, drop}
 use lib.Seq.{take-at}
 use lib.Dec.{leb}
 use Rattle.scan.specs.Lines.{lineEnd}
@@ -27,9 +26,9 @@ use Rattle.path_text.specs.declared.AsnsPut.{AsnsPut}
 use Rattle.path_text.specs.declared.AsnsPut.the-variants.{Wrote, TooFew}
 use Rattle.text_dump_line.specs.declared.Line.{Line}
 use Rattle.text_dump_line.specs.declared.Line.the-variants.{Unreadable as UnreadableLine, Passed, Wrapped, Route}
-use Rattle.plain_reader.specs.Rules.{Remembered as Plain, nothing, invalid, valid, replace}
+use Rattle.plain_reader.specs.Rules.{nothing, invalid, valid, replace}
 use Rattle.plain_reader.specs.Calls.{Answer, element, end, refused}
-use Rattle.plain_reader.specs.Cursor.{Cursor, next-at}
+use Rattle.plain_reader.specs.Cursor.{next-at}
 use Rattle.plain_reader.proofs.LineLoop as loop
 use Rattle.plain_reader.proofs.LineLoop.{come}
 use Rattle.text_dump.specs.State.{plain, cursor, moved, spoilt}

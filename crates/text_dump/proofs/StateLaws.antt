@@ -11,7 +11,6 @@ use Rattle.columns.specs.Columns.{areRising}
 use Rattle.seconds.specs.Seconds.{isTimestamp}
 use Rattle.network.specs.declared.Asn.{Asn}
 use Rattle.network.specs.declared.NetworkPrefix.{NetworkPrefix}
-use Rattle.elem.specs.declared.OptAsn.{OptAsn}
 use Rattle.elem.specs.declared.OptAsn.the-variants.{Known, Nothing as NoAsn}
 use Rattle.text_dump_line.specs.declared.PrefixText.{PrefixText}
 use Rattle.text_dump_line.specs.declared.PrefixText.the-variants.{Valid as ValidText}

@@ -8,7 +8,7 @@ use lib.Dec.{leb}
 use Rattle.network.specs.declared.NetworkPrefix.{NetworkPrefix}
 use Rattle.path_text.specs.Path.{asnsOf}
 use Rattle.text_dump_line.specs.Line.{pathOf}
-use Rattle.plain_reader.specs.Rules.{valid, Rules}
+use Rattle.plain_reader.specs.Rules.{valid}
 use Rattle.plain_reader.specs.Calls.{Answer, element, end, refused}
 use Rattle.plain_reader.specs.Cursor.{Cursor, next-at}
 use Rattle.text_dump.specs.State.{plain, cursor, moved, spoilt}

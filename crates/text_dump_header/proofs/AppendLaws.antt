@@ -1,7 +1,7 @@
 -- What follows a header that ends with its column line changes nothing: for whoever opens a table in parts.
 use Prim.Native.Nat.{ℕ, zero, suc, _+_}
 use mathlib.Core.Path.{_≡_, refl, sym, ap, _∙_}
-use mathlib.Core.Bool.{Bool, true, false, cond}
+use mathlib.Core.Bool.{true, cond}
 use mathlib.Core.List.{List, [], _∷_, _++_}
 use mathlib.Core.Option.{Option, some, none}
 use native.Mathlib.Omega.{arith}
@@ -18,7 +18,7 @@ use Rattle.columns.specs.declared.ColumnsRead.the-variants.{Found, Nothing as N
 use Rattle.text_dump_header.specs.Header.{columnsOf, isFound, through, unreadableLine, preambleOf, lastColumns, total, headerOf, answer, headerFrom, missing, header}
 use Rattle.text_dump_header.specs.declared.Preamble.{Preamble}
 use Rattle.text_dump_header.specs.declared.TextDumpHeader.{TextDumpHeader}
-use Rattle.text_dump_header.specs.declared.HeaderRead.the-variants.{Header, Unreadable}
+use Rattle.text_dump_header.specs.declared.HeaderRead.the-variants.{Header}
 use Rattle.text_dump_header.proofs.HeaderLaws.{last-passed}
 
 -- the lines that the scan meets, where a column header is among the first n, with lines behind them

@@ -3,11 +3,6 @@ use Rattle.decimal_display.proofs.Printed.{digits-written}
 use borrow.Author.Needs.{needs}
 use Rattle.decimal_display.proofs.write_u64.Statement.{statement}
 use Rattle.decimal_display.proofs.write_u64.Tie as tie
-use Rattle.decimal_display.proofs.write_u64.Reads as reads
-use Rattle.decimal_display.proofs.write_u64.Lts as lts
-use Rattle.decimal_display.proofs.decimal_len.Reads as decimal-len-reads
-use Rattle.decimal_display.proofs.fill.Reads as fill-reads
-use Rattle.decimal_display.proofs.write_cut.Reads as write-cut-reads
 
 returns : tie.Need-returns
 returns c = search no-room

@@ -5,8 +5,8 @@ use Rattle.fields.proofs.number_in.Tie as tie
 
 ruleset laws = (number-inside, number-field, number-plain)
 
-digits-front-requires : tie.Need-digits-front-requires
-digits-front-requires c κs = search (laws, needs)
+digits-at-requires : tie.Need-digits-at-requires
+digits-at-requires c κs = search (laws, needs)
 
 enum-known-v : tie.Need-enum-known-v
 enum-known-v c = search (laws, needs)
@@ -33,7 +33,7 @@ pub number-in-spec : {M : Type 1} → statement M
 number-in-spec =
     tie.close
     (tie.spec
-    digits-front-requires
+    digits-at-requires
     enum-known-v
     all-spaces-requires
     returns

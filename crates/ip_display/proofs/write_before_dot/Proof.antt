@@ -2,10 +2,6 @@ use borrow.Author.Needs.{needs}
 use Rattle.output.proofs.Output.{then}
 use Rattle.ip_display.proofs.write_before_dot.Statement.{statement}
 use Rattle.ip_display.proofs.write_before_dot.Tie as tie
-use Rattle.ip_display.proofs.write_before_dot.Reads as reads
-use Rattle.ip_display.proofs.write_before_dot.Lts as lts
-use Rattle.ip_display.proofs.write_octet.Reads as write-octet-reads
-use Rattle.output.proofs.write_byte.Reads as write-byte-reads
 
 ruleset laws = then
 

@@ -2,10 +2,6 @@ use borrow.Author.Needs.{needs}
 use Rattle.ip_display.proofs.Writing.{written-dotted}
 use Rattle.ip_display.proofs.write_ipv4.Statement.{statement}
 use Rattle.ip_display.proofs.write_ipv4.Tie as tie
-use Rattle.ip_display.proofs.write_ipv4.Reads as reads
-use Rattle.ip_display.proofs.write_ipv4.Lts as lts
-use Rattle.ip_display.proofs.write_before_dot.Reads as write-before-dot-reads
-use Rattle.ip_display.proofs.write_octet.Reads as write-octet-reads
 
 ruleset laws = written-dotted
 

@@ -2,9 +2,6 @@ use borrow.Author.Needs.{needs}
 use Rattle.ip_display.proofs.Writing.{written-octet-1, written-octet-2, written-octet-3}
 use Rattle.ip_display.proofs.write_octet.Statement.{statement}
 use Rattle.ip_display.proofs.write_octet.Tie as tie
-use Rattle.ip_display.proofs.write_octet.Reads as reads
-use Rattle.ip_display.proofs.write_octet.Lts as lts
-use Rattle.output.proofs.write_byte.Reads as write-byte-reads
 
 ruleset laws = (written-octet-1, written-octet-2, written-octet-3)
 

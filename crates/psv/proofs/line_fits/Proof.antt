@@ -3,12 +3,6 @@ use Rattle.psv.proofs.Longest.{line-surely}
 use borrow.Author.Needs.{needs}
 use Rattle.psv.proofs.line_fits.Statement.{statement}
 use Rattle.psv.proofs.line_fits.Tie as tie
-use Rattle.psv.proofs.line_fits.Reads as reads
-use Rattle.psv.proofs.line_fits.Lts as lts
-use Rattle.psv.proofs.has_room.Reads as has-room-reads
-use Rattle.psv.proofs.head_len.Reads as head-len-reads
-use Rattle.psv.proofs.surely_fits.Reads as surely-fits-reads
-use Rattle.psv.proofs.tail_len.Reads as tail-len-reads
 
 ruleset laws = (line-none, line-measured, line-surely)
 

@@ -2,8 +2,6 @@ use Rattle.psv.proofs.Longest.{longest-none, longest-fits}
 use borrow.Author.Needs.{needs}
 use Rattle.psv.proofs.surely_fits.Statement.{statement}
 use Rattle.psv.proofs.surely_fits.Tie as tie
-use Rattle.psv.proofs.surely_fits.Reads as reads
-use Rattle.psv.proofs.surely_fits.Lts as lts
 
 ruleset laws = (longest-none, longest-fits)
 

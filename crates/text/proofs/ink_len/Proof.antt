@@ -2,10 +2,6 @@ use Rattle.text.proofs.WhiteLaws.{ink-none, ink-some}
 use borrow.Author.Needs.{needs}
 use Rattle.text.proofs.ink_len.Statement.{statement}
 use Rattle.text.proofs.ink_len.Tie as tie
-use Rattle.text.proofs.ink_len.Reads as reads
-use Rattle.text.proofs.ink_len.Lts as lts
-use Rattle.text.proofs.piece_len.Reads as piece-len-reads
-use Rattle.text.proofs.white.Reads as white-reads
 
 ruleset laws = (ink-none, ink-some)
 

@@ -2,10 +2,6 @@ use Rattle.text.proofs.TokenLaws.{token-past, token-none, rest-length, 
 use borrow.Author.Needs.{needs}
 use Rattle.text.proofs.next_token.Statement.{statement}
 use Rattle.text.proofs.next_token.Tie as tie
-use Rattle.text.proofs.next_token.Reads as reads
-use Rattle.text.proofs.next_token.Lts as lts
-use Rattle.text.proofs.token_end.Reads as token-end-reads
-use Rattle.text.proofs.trim_start.Reads as trim-start-reads
 
 ruleset laws = (token-past, token-none, rest-length, token-found)
 

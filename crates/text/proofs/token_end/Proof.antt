@@ -5,9 +5,6 @@ use Rattle.text.specs.White.{afterToken}
 use Rattle.text.proofs.PlaceLaws.{visible-on, space-ends, white-ends, ink-on, ink-inside, ink-fits, token-ended}
 use Rattle.text.proofs.token_end.Statement.{statement}
 use Rattle.text.proofs.token_end.Tie as tie
-use Rattle.text.proofs.token_end.Reads as reads
-use Rattle.text.proofs.token_end.Lts as lts
-use Rattle.text.proofs.ink_len.Reads as ink-len-reads
 use borrow.Author.Needs.{needs}
 
 ruleset laws = (refl, visible-on, space-ends, white-ends, ink-on, ink-inside, ink-fits, token-ended)

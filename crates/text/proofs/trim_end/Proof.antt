@@ -6,9 +6,6 @@ use Rattle.text.specs.White.{trimEnd}
 use Rattle.text.proofs.PlaceLaws.{all-in-front, less-in-front, white-end-inside, gap-end-passed, visible-end-kept, nothing-end-kept, white-end-kept, white-end-passed}
 use Rattle.text.proofs.trim_end.Statement.{statement}
 use Rattle.text.proofs.trim_end.Tie as tie
-use Rattle.text.proofs.trim_end.Reads as reads
-use Rattle.text.proofs.trim_end.Lts as lts
-use Rattle.text.proofs.white_end.Reads as white-end-reads
 use borrow.Author.Needs.{needs}
 
 ruleset laws = (length-take-le, all-in-front, less-in-front, white-end-inside, gap-end-passed, visible-end-kept, nothing-end-kept, white-end-kept, white-end-passed)

@@ -5,9 +5,6 @@ use Rattle.text.specs.White.{trimStart}
 use Rattle.text.proofs.PlaceLaws.{white-inside, white-fits, space-passed, visible-kept, nothing-kept, white-kept, white-passed}
 use Rattle.text.proofs.trim_start.Statement.{statement}
 use Rattle.text.proofs.trim_start.Tie as tie
-use Rattle.text.proofs.trim_start.Reads as reads
-use Rattle.text.proofs.trim_start.Lts as lts
-use Rattle.text.proofs.white.Reads as white-reads
 use borrow.Author.Needs.{needs}
 
 ruleset laws = (white-inside, white-fits, space-passed, visible-kept, nothing-kept, white-kept, white-passed)

@@ -5,8 +5,6 @@ use Rattle.utf8.specs.Utf8.{isOne, all}
 use Rattle.utf8.proofs.ReadableLaws.{seen-none, seen-next, seen-all}
 use Rattle.utf8.proofs.ascii_bytewise.Statement.{statement}
 use Rattle.utf8.proofs.ascii_bytewise.Tie as tie
-use Rattle.utf8.proofs.ascii_bytewise.Reads as reads
-use Rattle.utf8.proofs.ascii_bytewise.Lts as lts
 use borrow.Author.Needs.{needs}
 
 ruleset laws = (seen-none, seen-next, seen-all)

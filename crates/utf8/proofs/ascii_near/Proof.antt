@@ -5,8 +5,6 @@ use Rattle.utf8.specs.Utf8.{isOne, all}
 use Rattle.utf8.proofs.ReadableLaws.{seen-none, near-next, near-all}
 use Rattle.utf8.proofs.ascii_near.Statement.{statement}
 use Rattle.utf8.proofs.ascii_near.Tie as tie
-use Rattle.utf8.proofs.ascii_near.Reads as reads
-use Rattle.utf8.proofs.ascii_near.Lts as lts
 use borrow.Author.Needs.{needs}
 
 ruleset laws = (seen-none, near-next, near-all)

@@ -6,10 +6,6 @@ use Rattle.utf8.specs.Utf8.{isOne, all}
 use Rattle.utf8.proofs.ReadableLaws.{seen-none, ascii-bad, ascii-more, ascii-last}
 use Rattle.utf8.proofs.is_ascii.Statement.{statement}
 use Rattle.utf8.proofs.is_ascii.Tie as tie
-use Rattle.utf8.proofs.is_ascii.Reads as reads
-use Rattle.utf8.proofs.is_ascii.Lts as lts
-use Rattle.utf8.proofs.ascii_bytewise.Reads as ascii-bytewise-reads
-use Rattle.utf8.proofs.ascii_near.Reads as ascii-near-reads
 use borrow.Author.Needs.{needs}
 
 ruleset laws = (seen-none, ascii-bad, ascii-more, ascii-last)
