@@ -1,4 +1,4 @@
--- How long a line can be: 158 bytes before the path, 130 behind it, and 21 for each number with its separator.
+-- How long a line can be: 90 bytes of front, 68 more before the path, 130 behind it, and 21 for each number with its separator.
 -- What an element's numbers are below comes from owning the element, `Is` (logic's Denote/Laws.antt).
 use mathlib.Core.Path.{_≡_, refl, sym, _∙_}
 use mathlib.Core.List.{List, [], _∷_, _++_}
@@ -6,7 +6,8 @@ use mathlib.Core.Bool.{Bool, true, false}
 use mathlib.Core.Option.{Option, some, none}
 use Prim.Native.Nat.{ℕ, suc, _+_, _*_, _-_, _/_, _≤_, _<_}
 use native.Mathlib.Omega.{arith}
-use lib.ListN.{length, getD, length-append}
+use lib.ListN.{length, getD, take, drop, length-append}
+use lib.Seq.{take-at}
 use lib.Dec.{T, leb, ltb}
 use lib.Ieee.{Float, binary64, fits}
 use mir.Syntax.{w8, w32}
@@ -21,6 +22,11 @@ use Rattle.decimal_display.proofs.Printed.{digits-most, negative-length, positi
 use Rattle.decimal.specs.declared.U32Read.{U32Read}
 use Rattle.decimal.specs.declared.U32Read.the-variants as read
 use Rattle.decimal.proofs.U32Read as u32-read
+use Rattle.output.specs.Output.{Written, front, answer}
+use Rattle.output.specs.declared.Put.the-variants as put
+use Rattle.output.proofs.Output.{kept, wrote, whole, too-short, all-written}
+use Rattle.network.specs.declared.Asn.{Asn}
+use Rattle.network.specs.declared.IpAddr.{IpAddr}
 use Rattle.network.specs.declared.NetworkPrefix.{NetworkPrefix}
 use Rattle.network_display.specs.Text.{addressText, prefixText}
 use Rattle.network_display.proofs.Writing.{address-le, prefix-length}
@@ -35,8 +41,9 @@ use Rattle.elem.specs.declared.OptOrigin.{OptOrigin}
 use Rattle.elem.specs.declared.OptOrigin.the-variants as origin
 use Rattle.elem.proofs.Element as element
 use Rattle.elem.proofs.OptAsn as opt-asn
-use Rattle.psv.specs.Line.{timeText, sequenceText, asnText, originText, numberText, headText, attributesText, tailText}
-use Rattle.psv.proofs.Printing.{head-length, attributes-length, psv-tail-length, display-tail-length}
+use Rattle.psv.specs.declared.ElementPut.{ElementPut}
+use Rattle.psv.specs.Line.{timeText, sequenceText, asnText, originText, numberText, startText, frontText, peerText, betweenText, attributesText, tailText, restText, lineText, Printed}
+use Rattle.psv.proofs.Printing.{type-length, between-length, attributes-length, psv-tail-length, display-tail-length}
 
 -- the numbers
 number-le : (n : ℕ) → Fits w32 n → length (decimal n) ≤ 20
@@ -96,10 +103,8 @@ within m = omega (arith, m .is, m .small)
 
 -- the parts of a line
 module _ (e : Element) (vs : List Val) (is : Is (struct.row element.the-type) e vs) where
-  head-le : length (headText e) ≤ 158
-  head-le =
-      within
-      (head-length e _ _ _ _ (measured (time-le (e .timestamp) (search needs))) refl (address-le (e .«peer_ip»)) refl (number-le (e .«peer_asn» .0) (search needs)) refl (prefix-le (e .prefix) (search needs)))
+  between-le : length (betweenText e) ≤ 68
+  between-le = within (between-length e _ refl (prefix-le (e .prefix) (search needs)))
 
   attributes-le : length (attributesText e) ≤ 108
   attributes-le =
@@ -110,22 +115,57 @@ module _ (e : Element) (vs : List Val) (is : Is (struct.row element.the-type) e 
   tail-le true = within (psv-tail-length e true _ _ refl (measured (search asn-le)) (measured attributes-le))
   tail-le false = within (display-tail-length e false _ refl (measured attributes-le))
 
-  -- a line with so many numbers
-  line-le : (psv : Bool) (ns : List ℕ) → ((i : ℕ) → Fits w32 (getD ns i 0)) → length (headText e ++ sequenceText ns ++ tailText psv e) ≤ 288 + 21 * length ns
-  line-le psv ns f = simp length-append (omega (arith, head-le, sequence-le true ns f, tail-le psv))
+  -- what stands behind the front, with so many numbers
+  rest-le : (psv : Bool) (ns : List ℕ) → ((i : ℕ) → Fits w32 (getD ns i 0)) → length (betweenText e ++ sequenceText ns ++ tailText psv e) ≤ 198 + 21 * length ns
+  rest-le psv ns f = simp length-append (omega (arith, between-le, sequence-le true ns f, tail-le psv))
 
-  pub line-surely : (psv : Bool) (ns : List ℕ) (room : ℕ) (b : Bool) → ((i : ℕ) → Fits w32 (getD ns i 0)) → b ≡ leb (288 + 21 * length ns) room → b ≡ true
-      → true ≡ leb (length (headText e ++ sequenceText ns ++ tailText psv e)) room
-  line-surely psv ns room b f k t =
-      sym (le-leb (length (headText e ++ sequenceText ns ++ tailText psv e)) room (omega (arith, line-le psv ns f, leb-true (288 + 21 * length ns) room (sym k ∙ t))))
+  pub rest-surely : (psv : Bool) (ns : List ℕ) (room : ℕ) (b : Bool) → ((i : ℕ) → Fits w32 (getD ns i 0)) → b ≡ leb (198 + 21 * length ns) room → b ≡ true
+      → true ≡ leb (length (betweenText e ++ sequenceText ns ++ tailText psv e)) room
+  rest-surely psv ns room b f k t =
+      sym (le-leb (length (betweenText e ++ sequenceText ns ++ tailText psv e)) room (omega (arith, rest-le psv ns f, leb-true (198 + 21 * length ns) room (sym k ∙ t))))
 
--- whether the longest line with so many numbers fits
-pub longest-none : (count room : ℕ) → room < 288 → false ≡ leb (288 + 21 * count) room
-longest-none count room h = sym (lt-leb (288 + 21 * count) room (omega arith))
+-- the front, written to 90 bytes
+module _ (announce : Bool) (t : Float) (ip : IpAddr) (number : Asn) (f : T (fits binary64 t)) (g : Fits w32 (number .0)) (places o : List ℕ) (n : ℕ)
+    (w : Written (frontText announce t ip number) places 0 o n) (h : length places ≡ 90) where
+  abbrev text : List ℕ
+  text = frontText announce t ip number
 
-pub longest-fits : (count room : ℕ) → 288 ≤ room → leb count ((room - 288) / 21) ≡ leb (288 + 21 * count) room
-longest-fits count room h = go (leb count ((room - 288) / 21)) refl
+  front-le : length text ≤ 90
+  unfolding frontText startText
+  front-le = simp length-append (omega (arith, type-length announce, time-le t f, address-le ip, number-le (number .0) g))
+
+  front-size : n ≡ length text
+  front-size = omega (arith, all-written text places o 0 n w (omega (arith, front-le)) .1)
+
+  front-taken : take n o ≡ text
+  front-taken =
+      rw (all-written text places o 0 n w (omega (arith, front-le)) .0) (take-at text (drop (0 + length text) places) n (sym front-size))
+
+  pub front-inside : n ≤ 90
+  front-inside = omega (arith, front-size, front-le)
+
+  module _ (out : List ℕ) where
+    pub front-short : length out < n → (put.TooShort ≡ answer text out) × (out ≡ front text out)
+    front-short l = (too-short text out n front-size l, kept text out n front-size l)
+
+    pub front-put : n ≤ length out → (new : List ℕ) (a : ℕ) → Written (take n o) out 0 new a → (put.Wrote a ≡ answer text out) × (new ≡ front text out)
+    front-put l new a v =
+        let u : Written text out 0 new a = rw (← front-taken) v in
+        (wrote text out n front-size new a l u, whole text out n front-size new a l u)
+
+-- the line behind its own front
+pub line-printed : (e : Element) → T (fits binary64 (e .timestamp)) → Fits w32 (e .«peer_asn» .0) → (places o : List ℕ) (n : ℕ) → Written (peerText e) places 0 o n → length places ≡ 90
+    → (psv s : Bool) (asns out : List ℕ) (r : ElementPut) (new : List ℕ) → Printed s (take n o ++ restText psv e asns) out r new → Printed s (lineText psv e asns) out r new
+line-printed e f g places o n w h psv s asns out r new p =
+    rw (front-taken (e .announce) (e .timestamp) (e .«peer_ip») (e .«peer_asn») f g places o n w h) at p
+
+-- whether the longest rest with so many numbers fits
+pub longest-none : (count room : ℕ) → room < 198 → false ≡ leb (198 + 21 * count) room
+longest-none count room h = sym (lt-leb (198 + 21 * count) room (omega arith))
+
+pub longest-fits : (count room : ℕ) → 198 ≤ room → leb count ((room - 198) / 21) ≡ leb (198 + 21 * count) room
+longest-fits count room h = go (leb count ((room - 198) / 21)) refl
   where
-    go : (b : Bool) → leb count ((room - 288) / 21) ≡ b → b ≡ leb (288 + 21 * count) room
-    go true e = sym (le-leb (288 + 21 * count) room (omega (arith, leb-true count ((room - 288) / 21) e)))
-    go false e = sym (lt-leb (288 + 21 * count) room (omega (arith, leb-false count ((room - 288) / 21) e)))
+    go : (b : Bool) → leb count ((room - 198) / 21) ≡ b → b ≡ leb (198 + 21 * count) room
+    go true e = sym (le-leb (198 + 21 * count) room (omega (arith, leb-true count ((room - 198) / 21) e)))
+    go false e = sym (lt-leb (198 + 21 * count) room (omega (arith, leb-false count ((room - 198) / 21) e)))

@@ -1,12 +1,13 @@
 -- Laws of an element's line: measured, written, and its fields joined.
 use mathlib.Core.Path.{_≡_, refl, sym, ap, _∙_}
-use mathlib.Core.List.{List, [], _∷_, _++_, append-assoc, append-nil}
+use mathlib.Core.List.{List, [], _∷_, _++_, append-assoc}
 use mathlib.Core.Bool.{Bool, true, false, cond}
 use mathlib.Core.Option.{Option, some, none}
 use Prim.Native.Nat.{ℕ, _+_, _-_, _≤_, _<_}
 use native.Mathlib.Omega.{arith}
 use lib.ListN.{length, getD, drop, length-append}
 use lib.Dec.{leb}
+use lib.Ieee.{Float}
 use borrow.Author.Tests.{le-leb, lt-leb, leb-true, leb-false}
 use Rattle.scan.specs.Ascii.{ascii}
 use Rattle.decimal_display.specs.Printed.{decimal}
@@ -16,6 +17,7 @@ use Rattle.output.specs.declared.Put.the-variants as put
 use Rattle.decimal.specs.declared.U32Read.{U32Read}
 use Rattle.decimal.specs.declared.U32Read.the-variants as read
 use Rattle.network.specs.declared.Asn.{Asn}
+use Rattle.network.specs.declared.IpAddr.{IpAddr}
 use Rattle.network_display.specs.Text.{addressText, prefixText}
 use Rattle.seconds.specs.Seconds.{secondOf, asSecond, timestampText}
 use Rattle.seconds.specs.declared.SecondRead.{SecondRead}
@@ -33,10 +35,10 @@ use Rattle.elem.specs.declared.OptOrigin.{OptOrigin}
 use Rattle.elem.specs.declared.OptOrigin.the-variants as origin
 use Rattle.elem.proofs.Spoilt.{count-within}
 use Rattle.psv.specs.declared.ElementPut.the-variants.{Wrote, Spoilt, TooShort}
-use Rattle.psv.specs.Line.{headerText, bar, typeText, timeText, sequenceText, asnText, originText, numberText, psvText, displayText, startText, peerText, headText, hopText, preferenceText, attributesText, tailText, lineText, Printed}
+use Rattle.psv.specs.Line.{headerText, bar, typeText, timeText, sequenceText, asnText, originText, numberText, psvText, displayText, startText, frontText, betweenText, hopText, preferenceText, attributesText, tailText, restText, lineText, Printed}
 
 -- the type
-type-length : (b : Bool) → length (typeText b) ≡ 1
+pub type-length : (b : Bool) → length (typeText b) ≡ 1
 type-length true = refl
 type-length false = refl
 
@@ -49,14 +51,6 @@ module _ (b : Bool) (out o : List ℕ) (at a : ℕ) where
 
 -- the timestamp
 module _ (m : Option ℕ) (r : SecondRead) (told : r ≡ asSecond m) where
-  pub time-length : (s n : ℕ) → r ≡ second.Second s → n ≡ length (timestampText s) → n ≤ 21 → Measured (timeText m) 21 n
-  unfolding timeText
-  time-length s n e h l = rw (second-some m r s told e) (record { is = h; small = l })
-
-  pub no-time-length : r ≡ second.Nothing → Measured (timeText m) 21 0
-  unfolding timeText
-  no-time-length e = rw (second-none m r told e) (record { is = refl; small = omega arith })
-
   module _ (out : List ℕ) (at : ℕ) where
     pub time-written : (s : ℕ) (o : List ℕ) (a : ℕ) → r ≡ second.Second s → Written (timestampText s) out at o a → Written (timeText m) out at o a
     unfolding timeText
@@ -139,11 +133,9 @@ module _ (x : OptOrigin) where
 
 -- the parts of a line, measured
 module _ (e : Element) where
-  pub head-length : (t p a q : ℕ) → Measured (timeText (secondOf (e .timestamp))) 21 t → p ≡ length (addressText (e .«peer_ip»)) → p ≤ 45
-      → a ≡ length (decimal (e .«peer_asn» .0)) → a ≤ 20 → q ≡ length (prefixText (e .prefix)) → q ≤ 66 → Measured (headText e) 158 (6 + t + p + a + q)
-  unfolding headText peerText startText
-  head-length t p a q w h i j k l m =
-      record { is = simp length-append (omega (arith, w .is, type-length (e .announce))); small = omega (arith, w .small) }
+  pub between-length : (q : ℕ) → q ≡ length (prefixText (e .prefix)) → q ≤ 66 → Measured (betweenText e) 68 (2 + q)
+  unfolding betweenText
+  between-length q h l = record { is = simp length-append (omega arith); small = omega arith }
 
   pub attributes-length : (a b c d : ℕ) → Measured (originText (e .origin)) 10 a → b ≡ length (addressText (e .«next_hop»)) → b ≤ 45
       → Measured (numberText (e .«local_pref»)) 20 c → Measured (numberText (e .metric)) 20 d → Measured (attributesText e) 108 (13 + a + b + c + d)
@@ -161,21 +153,22 @@ module _ (e : Element) where
   display-tail-length psv n t w = rw t (record { is = w .is; small = omega (arith, w .small) })
 
 -- written
-module _ (e : Element) (out : List ℕ) (at : ℕ) where
-  pub start-written : (o₁ o₂ o₃ o : List ℕ) (a b c r : ℕ) → Written (typeText (e .announce)) out at o₁ a → Written bar o₁ a o₂ b
-      → Written (timeText (secondOf (e .timestamp))) o₂ b o₃ c → Written bar o₃ c o r → Written (startText e) out at o r
+module _ (announce : Bool) (t : Float) (out : List ℕ) (at : ℕ) where
+  pub start-written : (o₁ o₂ o₃ o : List ℕ) (a b c r : ℕ) → Written (typeText announce) out at o₁ a → Written bar o₁ a o₂ b
+      → Written (timeText (secondOf t)) o₂ b o₃ c → Written bar o₃ c o r → Written (startText announce t) out at o r
   unfolding startText
   start-written o₁ o₂ o₃ o a b c r w₁ w₂ w₃ w₄ = then (then (then w₁ w₂) w₃) w₄
 
-  pub peer-written : (o₁ o₂ o₃ o : List ℕ) (a b c r : ℕ) → Written (startText e) out at o₁ a → Written (addressText (e .«peer_ip»)) o₁ a o₂ b → Written bar o₂ b o₃ c
-      → Written (decimal (e .«peer_asn» .0)) o₃ c o r → Written (peerText e) out at o r
-  unfolding peerText
-  peer-written o₁ o₂ o₃ o a b c r w₁ w₂ w₃ w₄ = then (then (then w₁ w₂) w₃) w₄
+  pub front-written : (ip : IpAddr) (n : Asn) (o₁ o₂ o₃ o : List ℕ) (a b c r : ℕ) → Written (startText announce t) out at o₁ a → Written (addressText ip) o₁ a o₂ b
+      → Written bar o₂ b o₃ c → Written (decimal (n .0)) o₃ c o r → Written (frontText announce t ip n) out at o r
+  unfolding frontText
+  front-written ip n o₁ o₂ o₃ o a b c r w₁ w₂ w₃ w₄ = then (then (then w₁ w₂) w₃) w₄
 
-  pub head-written : (o₁ o₂ o₃ o : List ℕ) (a b c r : ℕ) → Written (peerText e) out at o₁ a → Written bar o₁ a o₂ b → Written (prefixText (e .prefix)) o₂ b o₃ c
-      → Written bar o₃ c o r → Written (headText e) out at o r
-  unfolding headText
-  head-written o₁ o₂ o₃ o a b c r w₁ w₂ w₃ w₄ = then (then (then w₁ w₂) w₃) w₄
+module _ (e : Element) (out : List ℕ) (at : ℕ) where
+  pub between-written : (o₁ o₂ o : List ℕ) (a b r : ℕ) → Written bar out at o₁ a → Written (prefixText (e .prefix)) o₁ a o₂ b → Written bar o₂ b o r
+      → Written (betweenText e) out at o r
+  unfolding betweenText
+  between-written o₁ o₂ o a b r w₁ w₂ w₃ = then (then w₁ w₂) w₃
 
   pub hop-written : (o₁ o₂ o₃ o : List ℕ) (a b c r : ℕ) → Written bar out at o₁ a → Written (originText (e .origin)) o₁ a o₂ b → Written bar o₂ b o₃ c
       → Written (addressText (e .«next_hop»)) o₃ c o r → Written (hopText e) out at o r
@@ -228,17 +221,27 @@ module _ (x : Bool) (first : Bool) (s : List ℕ) (i left : ℕ) (known : x ≡ 
       (known
       ∙ le-leb (length (separated 32 decimal first (drop i s))) left (omega (arith, len-end decimal 32 first s i (separated 32 decimal first (drop i s)) 0 (omega arith) h)))
 
--- a line compared with the room, by its parts
-module _ (psv : Bool) (e : Element) (ns : List ℕ) (room h k : ℕ) (u : Measured (headText e) 158 h) (v : Measured (tailText psv e) 130 k) where
-  line-length : length (headText e ++ sequenceText ns ++ tailText psv e) ≡ h + k + length (sequenceText ns)
-  line-length = simp length-append (omega (arith, u .is, v .is))
+-- what stands behind the front, compared with the room by its parts
+module _ (psv : Bool) (e : Element) (ns : List ℕ) (room : ℕ) where
+  abbrev rest : List ℕ
+  rest = betweenText e ++ sequenceText ns ++ tailText psv e
 
-  pub line-none : room < h + k → false ≡ leb (length (headText e ++ sequenceText ns ++ tailText psv e)) room
-  line-none l = sym (lt-leb (length (headText e ++ sequenceText ns ++ tailText psv e)) room (omega (arith, line-length)))
+  module _ (q k : ℕ) (u : q ≡ length (prefixText (e .prefix))) (i : q ≤ 66) (v : Measured (tailText psv e) 130 k) where
+    rest-length : length rest ≡ 2 + q + k + length (sequenceText ns)
+    rest-length = simp length-append (omega (arith, between-length e q u i .is, v .is))
 
-  pub line-measured : h + k ≤ room → (b : Bool) → b ≡ leb (length (sequenceText ns)) (room - (h + k))
-      → b ≡ leb (length (headText e ++ sequenceText ns ++ tailText psv e)) room
-  line-measured l b f = f ∙ sym (leb-shift (length (headText e ++ sequenceText ns ++ tailText psv e)) (length (sequenceText ns)) (h + k) room line-length l)
+    pub rest-none : room < 2 + q + k → false ≡ leb (length rest) room
+    rest-none l = sym (lt-leb (length rest) room (omega (arith, rest-length)))
+
+    pub rest-measured : 2 + q + k ≤ room → (b : Bool) → b ≡ leb (length (sequenceText ns)) (room - (2 + q + k)) → b ≡ leb (length rest) room
+    rest-measured l b f = f ∙ sym (leb-shift (length rest) (length (sequenceText ns)) (2 + q + k) room rest-length l)
+
+  -- and behind a front so long
+  pub line-none : (n : ℕ) → room < n → false ≡ leb (n + length rest) room
+  line-none n l = sym (lt-leb (n + length rest) room (omega arith))
+
+  pub line-rest : (n : ℕ) → n ≤ room → (b : Bool) → b ≡ leb (length rest) (room - n) → b ≡ leb (n + length rest) room
+  line-rest n l b f = f ∙ sym (leb-shift (n + length rest) (length rest) n room refl l)
 
 -- the header
 pub header-is : headerText ≡ ascii "type|timestamp|peer_ip|peer_asn|prefix|as_path|origin_asns|origin|next_hop|local_pref|med|communities|atomic|aggr_asn|aggr_ip|only_to_customer"
@@ -267,51 +270,62 @@ put-spoilt s r t out e f = let z : s ≡ true = sym e ∙ f in record { told = r
 pub slice-within : (e : Element) (asns : List ℕ) (r : Bool) → r ≡ spoilt e asns → r ≡ false → e .count ≤ length asns
 slice-within e asns r h k = count-within e asns (sym h ∙ k)
 
-module _ (psv : Bool) (e : Element) (asns out : List ℕ) (r b : Bool) (told : r ≡ spoilt e asns) (sound : r ≡ false)
-    (fits : b ≡ leb (length (headText e ++ sequenceText (numbers e asns) ++ tailText psv e)) (length out)) where
-  pub put-short : b ≡ false → Printed (spoilt e asns) (lineText psv e asns) out TooShort out
-  unfolding lineText
+module _ (psv : Bool) (begin : List ℕ) (e : Element) (asns out : List ℕ) (r b : Bool) (told : r ≡ spoilt e asns) (sound : r ≡ false)
+    (fits : b ≡ leb (length begin + length (betweenText e ++ sequenceText (numbers e asns) ++ tailText psv e)) (length out)) where
+  abbrev text : List ℕ
+  text = begin ++ restText psv e asns
+
+  fits-text : b ≡ leb (length text) (length out)
+  unfolding restText
+  fits-text = rw length-append fits
+
+  pub put-short : b ≡ false → Printed (spoilt e asns) text out TooShort out
   put-short f =
       let z : spoilt e asns ≡ false = sym told ∙ sound in
-      let n : leb (length (lineText psv e asns)) (length out) ≡ false = sym fits ∙ f in
-      record { told = rw z (simp n); left = rw z (kept (lineText psv e asns) out (length (lineText psv e asns)) refl (leb-false (length (lineText psv e asns)) (length out) n)) }
+      let n : leb (length text) (length out) ≡ false = sym fits-text ∙ f in
+      record { told = rw z (simp n); left = rw z (kept text out (length text) refl (leb-false (length text) (length out) n)) }
 
-  pub put-written : b ≡ true → (o₁ o₂ o : List ℕ) (a c d : ℕ) → Written (headText e) out 0 o₁ a → Written (sequenceText (numbers e asns)) o₁ a o₂ c
-      → Written (tailText psv e) o₂ c o d → Printed (spoilt e asns) (lineText psv e asns) out (Wrote d) o
-  unfolding lineText
-  put-written f o₁ o₂ o a c d w₁ w₂ w₃ =
+  pub put-written : b ≡ true → (o₁ o₂ o₃ o : List ℕ) (a c d g : ℕ) → Written begin out 0 o₁ a → Written (betweenText e) o₁ a o₂ c
+      → Written (sequenceText (numbers e asns)) o₂ c o₃ d → Written (tailText psv e) o₃ d o g → Printed (spoilt e asns) text out (Wrote g) o
+  unfolding restText
+  put-written f o₁ o₂ o₃ o a c d g w₁ w₂ w₃ w₄ =
       let z : spoilt e asns ≡ false = sym told ∙ sound in
-      let n : leb (length (lineText psv e asns)) (length out) ≡ true = sym fits ∙ f in
-      let l : length (lineText psv e asns) ≤ length out = leb-true (length (lineText psv e asns)) (length out) n in
-      let w : Written (lineText psv e asns) out 0 o d = then (then w₁ w₂) w₃ in
-      let p : d ≡ length (lineText psv e asns) = omega (arith, w .place, room-all out 0 (lineText psv e asns) (omega arith)) in
-      record { told = rw z (simp n (ap Wrote p)); left = rw z (whole (lineText psv e asns) out (length (lineText psv e asns)) refl o d l w) }
+      let n : leb (length text) (length out) ≡ true = sym fits-text ∙ f in
+      let l : length text ≤ length out = leb-true (length text) (length out) n in
+      let w : Written text out 0 o g = then w₁ (then (then w₂ w₃) w₄) in
+      let p : g ≡ length text = omega (arith, w .place, room-all out 0 text (omega arith)) in
+      record { told = rw z (simp n (ap Wrote p)); left = rw z (whole text out (length text) refl o g l w) }
 
 -- the fields joined are the parts one after another
 to-the-right : (x a b c d f p q g h i j z : List ℕ)
-    → a ++ x ++ b ++ x ++ c ++ x ++ d ++ x ++ f ++ x ++ p ++ (x ++ q ++ (x ++ g ++ x ++ h ++ x ++ i ++ x ++ j ++ z) ++ x)
+    → a ++ x ++ b ++ x ++ c ++ x ++ d ++ (x ++ f ++ x ++ p ++ (x ++ q ++ (x ++ g ++ x ++ h ++ x ++ i ++ x ++ j ++ z) ++ x))
     ≡ a ++ (x ++ (b ++ (x ++ (c ++ (x ++ (d ++ (x ++ (f ++ (x ++ (p ++ (x ++ (q ++ (x ++ (g ++ (x ++ (h ++ (x ++ (i ++ (x ++ (j ++ (z ++ x)))))))))))))))))))))
 to-the-right x a b c d f p q g h i j z = simp append-assoc
 
+to-the-right-14 : (x a b c d f p g h i j z : List ℕ)
+    → a ++ x ++ b ++ x ++ c ++ x ++ d ++ (x ++ f ++ x ++ p ++ (x ++ g ++ x ++ h ++ x ++ i ++ x ++ j ++ z))
+    ≡ a ++ (x ++ (b ++ (x ++ (c ++ (x ++ (d ++ (x ++ (f ++ (x ++ (p ++ (x ++ (g ++ (x ++ (h ++ (x ++ (i ++ (x ++ (j ++ z))))))))))))))))))
+to-the-right-14 x a b c d f p g h i j z = simp append-assoc
+
 join16 : (a b c d f p q g h i j : List ℕ)
-    → a ++ bar ++ b ++ bar ++ c ++ bar ++ d ++ bar ++ f ++ bar ++ p ++ (bar ++ q ++ (bar ++ g ++ bar ++ h ++ bar ++ i ++ bar ++ j ++ ascii "||false||") ++ bar)
+    → a ++ bar ++ b ++ bar ++ c ++ bar ++ d ++ (bar ++ f ++ bar ++ p ++ (bar ++ q ++ (bar ++ g ++ bar ++ h ++ bar ++ i ++ bar ++ j ++ ascii "||false||") ++ bar))
     ≡ separated 124 (λ (t : List ℕ). t) true (a ∷ b ∷ c ∷ d ∷ f ∷ p ∷ q ∷ g ∷ h ∷ i ∷ j ∷ [] ∷ ascii "false" ∷ [] ∷ [] ∷ [] ∷ [])
 unfolding separated
 join16 a b c d f p q g h i j = to-the-right bar a b c d f p q g h i j (ascii "||false||")
 
 join14 : (a b c d f p g h i j : List ℕ)
-    → a ++ bar ++ b ++ bar ++ c ++ bar ++ d ++ bar ++ f ++ bar ++ p ++ (bar ++ g ++ bar ++ h ++ bar ++ i ++ bar ++ j ++ ascii "||false||")
+    → a ++ bar ++ b ++ bar ++ c ++ bar ++ d ++ (bar ++ f ++ bar ++ p ++ (bar ++ g ++ bar ++ h ++ bar ++ i ++ bar ++ j ++ ascii "||false||"))
     ≡ separated 124 (λ (t : List ℕ). t) true (a ∷ b ∷ c ∷ d ∷ f ∷ p ∷ g ∷ h ∷ i ∷ j ∷ [] ∷ ascii "false" ∷ [] ∷ [] ∷ [])
 unfolding separated
-join14 a b c d f p g h i j = simp (append-assoc, append-nil)
+join14 a b c d f p g h i j = to-the-right-14 bar a b c d f p g h i j (ascii "||false||")
 
 pub psv-line : (e : Element) (asns : List ℕ) → lineText true e asns ≡ psvText e asns
-unfolding lineText headText peerText startText tailText attributesText preferenceText hopText psvText
+unfolding restText betweenText frontText startText tailText attributesText preferenceText hopText psvText
 psv-line e asns =
     join16 (typeText (e .announce)) (timeText (secondOf (e .timestamp))) (addressText (e .«peer_ip»)) (decimal (e .«peer_asn» .0)) (prefixText (e .prefix)) (sequenceText (numbers e asns)) (asnText (e .«origin_asn»)) (originText (e .origin)) (addressText (e .«next_hop»)) (numberText (e .«local_pref»)) (numberText (e .metric))
 
 pub display-line : (e : Element) (asns : List ℕ) → lineText false e asns ≡ displayText e asns
-unfolding lineText headText peerText startText tailText attributesText preferenceText hopText displayText
+unfolding restText betweenText frontText startText tailText attributesText preferenceText hopText displayText
 display-line e asns =
     join14 (typeText (e .announce)) (timeText (secondOf (e .timestamp))) (addressText (e .«peer_ip»)) (decimal (e .«peer_asn» .0)) (prefixText (e .prefix)) (sequenceText (numbers e asns)) (originText (e .origin)) (addressText (e .«next_hop»)) (numberText (e .«local_pref»)) (numberText (e .metric))
 

@@ -6,12 +6,14 @@ use mathlib.Core.Option.{Option, some, none}
 use mathlib.Core.List.{List, [], _∷_, _++_}
 use lib.ListN.{length}
 use lib.Dec.{leb}
+use lib.Ieee.{Float}
 use Rattle.scan.specs.Ascii.{ascii}
 use Rattle.decimal_display.specs.Printed.{decimal}
 use Rattle.output.specs.Output.{front}
 use Rattle.decimal.specs.declared.U32Read.{U32Read}
 use Rattle.decimal.specs.declared.U32Read.the-variants as read
 use Rattle.network.specs.declared.Asn.{Asn}
+use Rattle.network.specs.declared.IpAddr.{IpAddr}
 use Rattle.network_display.specs.Text.{addressText, prefixText}
 use Rattle.seconds.specs.Seconds.{secondOf, timestampText}
 use Rattle.aspath_display.specs.Display.{separated}
@@ -75,18 +77,23 @@ displayText e asns =
     joined
     (typeText (e .announce) ∷ timeText (secondOf (e .timestamp)) ∷ addressText (e .«peer_ip») ∷ decimal (e .«peer_asn» .0) ∷ prefixText (e .prefix) ∷ sequenceText (numbers e asns) ∷ originText (e .origin) ∷ addressText (e .«next_hop») ∷ numberText (e .«local_pref») ∷ numberText (e .metric) ∷ [] ∷ ascii "false" ∷ [] ∷ [] ∷ [])
 
--- the one or the other in the parts that are written one after another: up to the path, and behind it
+-- the one or the other in the parts that are written one after another: the front, which is the same for all elements of a peer and a time, the prefix,
+-- the path and what stands behind it
 abbrev pub bar : List ℕ
 bar = 124 ∷ []
 
-unfoldable pub startText : Element → List ℕ
-startText e = typeText (e .announce) ++ bar ++ timeText (secondOf (e .timestamp)) ++ bar
+unfoldable pub startText : Bool → Float → List ℕ
+startText announce t = typeText announce ++ bar ++ timeText (secondOf t) ++ bar
 
-unfoldable pub peerText : Element → List ℕ
-peerText e = startText e ++ addressText (e .«peer_ip») ++ bar ++ decimal (e .«peer_asn» .0)
+unfoldable pub frontText : Bool → Float → IpAddr → Asn → List ℕ
+frontText announce t ip number = startText announce t ++ addressText ip ++ bar ++ decimal (number .0)
 
-unfoldable pub headText : Element → List ℕ
-headText e = peerText e ++ bar ++ prefixText (e .prefix) ++ bar
+-- the front of an element's line
+abbrev pub peerText : Element → List ℕ
+peerText e = frontText (e .announce) (e .timestamp) (e .«peer_ip») (e .«peer_asn»)
+
+unfoldable pub betweenText : Element → List ℕ
+betweenText e = bar ++ prefixText (e .prefix) ++ bar
 
 unfoldable pub hopText : Element → List ℕ
 hopText e = bar ++ originText (e .origin) ++ bar ++ addressText (e .«next_hop»)
@@ -100,8 +107,12 @@ attributesText e = preferenceText e ++ bar ++ numberText (e .metric) ++ ascii "|
 unfoldable pub tailText : Bool → Element → List ℕ
 tailText psv e = cond psv (bar ++ asnText (e .«origin_asn») ++ attributesText e ++ bar) (attributesText e)
 
-unfoldable pub lineText : Bool → Element → List ℕ → List ℕ
-lineText psv e asns = headText e ++ sequenceText (numbers e asns) ++ tailText psv e
+-- what stands behind the front
+unfoldable pub restText : Bool → Element → List ℕ → List ℕ
+restText psv e asns = betweenText e ++ sequenceText (numbers e asns) ++ tailText psv e
+
+abbrev pub lineText : Bool → Element → List ℕ → List ℕ
+lineText psv e asns = peerText e ++ restText psv e asns
 
 -- what a call that prints a text of the element answers and leaves: 01's order, 8, then 9 with the output as it was
 pub record Printed (spoilt : Bool) (text out : List ℕ) (r : ElementPut) (new : List ℕ) : Type 0 where

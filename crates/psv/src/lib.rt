@@ -9,13 +9,14 @@ ghost use Rattle.output.specs.Output.{Written, front, answer};
 ghost use Rattle.seconds.specs.Seconds.{secondOf};
 ghost use Rattle.aspath_display.specs.Display.{Measured};
 ghost use Rattle.elem.specs.Element.{spoilt};
-ghost use Rattle.psv.specs.Line.{headerText, typeText, timeText, sequenceText, asnText, originText, numberText, psvText, displayText, startText, peerText, headText, hopText, preferenceText, attributesText, tailText, lineText, Printed};
+ghost use Rattle.psv.specs.Line.{headerText, typeText, timeText, sequenceText, asnText, originText, numberText, psvText, displayText, startText, frontText, betweenText, hopText, preferenceText, attributesText, tailText, restText, lineText, Printed};
 use decimal::U32Read;
 use elem::Element;
 use elem::OptAsn;
 use elem::OptOrigin;
 use elem::Origin;
 use network::Asn;
+use network::IpAddr;
 use output::Put;
 use seconds::SecondRead;
 
@@ -37,15 +38,6 @@ fn write_type(announce: bool, out: &mut [u8], at: usize) -> usize
     }
 }
 
-fn time_len(t: f64) -> usize
-    ensures { λ r. ⌜ Measured (timeText (secondOf t)) 21 r ⌝ }
-{
-    match seconds::second_of(t) {
-        SecondRead::Second(second) => seconds::timestamp_len(second),
-        SecondRead::Nothing => 0,
-    }
-}
-
 fn write_time(t: f64, out: &mut [u8], at: usize) -> usize
     ensures { λ r. ⌜ Written (timeText (secondOf t)) (now (out .entry)) at (now (out .exit)) r ⌝ }
 {
@@ -55,49 +47,38 @@ fn write_time(t: f64, out: &mut [u8], at: usize) -> usize
     }
 }
 
-fn head_len(e: Element) -> usize
-    ensures { λ r. ⌜ Measured (headText e) 158 r ⌝ }
+fn write_start(announce: bool, timestamp: f64, out: &mut [u8], at: usize) -> usize
+    ensures { λ r. ⌜ Written (startText announce timestamp) (now (out .entry)) at (now (out .exit)) r ⌝ }
 {
-    let timestamp = e.timestamp;
-    let peer_ip = e.peer_ip;
-    let peer_asn = e.peer_asn;
-    let prefix = e.prefix;
-    let time = time_len(timestamp);
-    let peer = network_display::address_len(peer_ip);
-    let asn = decimal_display::decimal_len(peer_asn.0 as u64);
-    6 + time + peer + asn + network_display::prefix_text_len(prefix)
-}
-
-fn write_start(e: Element, out: &mut [u8], at: usize) -> usize
-    ensures { λ r. ⌜ Written (startText e) (now (out .entry)) at (now (out .exit)) r ⌝ }
-{
-    let announce = e.announce;
-    let timestamp = e.timestamp;
     let a = write_type(announce, out, at);
     let b = output::write_byte(b'|', out, a);
     let c = write_time(timestamp, out, b);
     output::write_byte(b'|', out, c)
 }
 
-fn write_peer(e: Element, out: &mut [u8], at: usize) -> usize
-    ensures { λ r. ⌜ Written (peerText e) (now (out .entry)) at (now (out .exit)) r ⌝ }
+fn write_front(
+    announce: bool,
+    timestamp: f64,
+    peer_ip: IpAddr,
+    peer_asn: Asn,
+    out: &mut [u8],
+    at: usize,
+) -> usize
+    ensures { λ r. ⌜ Written (frontText announce timestamp «peer_ip» «peer_asn») (now (out .entry)) at (now (out .exit)) r ⌝ }
 {
-    let peer_ip = e.peer_ip;
-    let peer_asn = e.peer_asn;
-    let a = write_start(e, out, at);
+    let a = write_start(announce, timestamp, out, at);
     let b = network_display::write_address(peer_ip, out, a);
     let c = output::write_byte(b'|', out, b);
     decimal_display::write_u32(peer_asn.0, out, c)
 }
 
-fn write_head(e: Element, out: &mut [u8], at: usize) -> usize
-    ensures { λ r. ⌜ Written (headText e) (now (out .entry)) at (now (out .exit)) r ⌝ }
+fn write_prefix(e: Element, out: &mut [u8], at: usize) -> usize
+    ensures { λ r. ⌜ Written (betweenText e) (now (out .entry)) at (now (out .exit)) r ⌝ }
 {
     let prefix = e.prefix;
-    let a = write_peer(e, out, at);
-    let b = output::write_byte(b'|', out, a);
-    let c = network_display::write_prefix(prefix, out, b);
-    output::write_byte(b'|', out, c)
+    let a = output::write_byte(b'|', out, at);
+    let b = network_display::write_prefix(prefix, out, a);
+    output::write_byte(b'|', out, b)
 }
 
 // The path, one sequence.
@@ -249,51 +230,104 @@ fn write_tail(psv: bool, e: Element, out: &mut [u8], at: usize) -> usize
     write_attributes(e, out, at)
 }
 
-// Whether a line with so many numbers fits whatever it holds. The bounds are those that its parts are measured with: 158 bytes
-// before the path and 130 behind it, 288 in all, and 21 for a number with its separator.
+// The line.
+
+// Whether what stands behind the front fits whatever it holds, with so many numbers. The bounds are those that its parts are measured with:
+// 68 bytes before the path and 130 behind it, 198 in all, and 21 for a number with its separator.
 fn surely_fits(count: usize, room: usize) -> bool
-    ensures { λ r. ⌜ r ≡ leb (288 + 21 * count) room ⌝ }
+    ensures { λ r. ⌜ r ≡ leb (198 + 21 * count) room ⌝ }
 {
-    if room < 288 {
+    if room < 198 {
         return false;
     }
-    count <= (room - 288) / 21
+    count <= (room - 198) / 21
 }
 
 // Measured only where it is not sure: to measure an address is to write it.
-fn line_fits(psv: bool, e: Element, numbers: &[u32], room: usize) -> bool
-    ensures { λ r. ⌜ r ≡ leb (length (headText e ++ sequenceText (now (numbers .entry)) ++ tailText psv e)) room ⌝ }
+fn rest_fits(psv: bool, e: Element, numbers: &[u32], room: usize) -> bool
+    ensures { λ r. ⌜ r ≡ leb (length (betweenText e ++ sequenceText (now (numbers .entry)) ++ tailText psv e)) room ⌝ }
 {
     if surely_fits(numbers.len(), room) {
         return true;
     }
-    let around = head_len(e) + tail_len(psv, e);
+    let prefix = e.prefix;
+    let around = 2 + network_display::prefix_text_len(prefix) + tail_len(psv, e);
     if room < around {
         return false;
     }
     has_room(numbers, room - around)
 }
 
-fn put_line(psv: bool, e: Element, asns: &[u32], out: &mut [u8]) -> ElementPut
-    ensures { λ r. ⌜ Printed (spoilt e (now (asns .entry))) (lineText psv e (now (asns .entry))) (now (out .entry)) r (now (out .exit)) ⌝ }
+// The same behind a front so long.
+fn line_fits(psv: bool, front_len: usize, e: Element, numbers: &[u32], room: usize) -> bool
+    ensures { λ r. ⌜ r ≡ leb («front_len» + length (betweenText e ++ sequenceText (now (numbers .entry)) ++ tailText psv e)) room ⌝ }
+{
+    if room < front_len {
+        return false;
+    }
+    rest_fits(psv, e, numbers, room - front_len)
+}
+
+// The line behind any front.
+fn put_behind(psv: bool, front: &[u8], e: Element, asns: &[u32], out: &mut [u8]) -> ElementPut
+    ensures { λ r. ⌜ Printed (spoilt e (now (asns .entry))) (now (front .entry) ++ restText psv e (now (asns .entry))) (now (out .entry)) r (now (out .exit)) ⌝ }
 {
     if elem::is_spoilt_element(e, asns) {
         return ElementPut::Spoilt;
     }
     let count = e.count;
     let numbers = &asns[..count];
-    if line_fits(psv, e, numbers, out.len()) {
-        let a = write_head(e, out, 0);
-        let b = aspath_display::write_numbers(numbers, b' ', out, a);
-        return ElementPut::Wrote(write_tail(psv, e, out, b));
+    if line_fits(psv, front.len(), e, numbers, out.len()) {
+        let a = output::write_bytes(front, out, 0);
+        let b = write_prefix(e, out, a);
+        let c = aspath_display::write_numbers(numbers, b' ', out, b);
+        return ElementPut::Wrote(write_tail(psv, e, out, c));
     }
     ElementPut::TooShort
+}
+
+// The line behind its own front, which has at most 90 bytes.
+fn put_line(psv: bool, e: Element, asns: &[u32], out: &mut [u8]) -> ElementPut
+    ensures { λ r. ⌜ Printed (spoilt e (now (asns .entry))) (lineText psv e (now (asns .entry))) (now (out .entry)) r (now (out .exit)) ⌝ }
+{
+    let announce = e.announce;
+    let timestamp = e.timestamp;
+    let peer_ip = e.peer_ip;
+    let peer_asn = e.peer_asn;
+    let mut front = [0u8; 90];
+    let n = write_front(announce, timestamp, peer_ip, peer_asn, &mut front, 0);
+    put_behind(psv, &front[..n], e, asns, out)
 }
 
 pub fn to_psv(e: Element, asns: &[u32], out: &mut [u8]) -> ElementPut
     ensures { λ r. ⌜ Printed (spoilt e (now (asns .entry))) (psvText e (now (asns .entry))) (now (out .entry)) r (now (out .exit)) ⌝ }
 {
     put_line(true, e, asns, out)
+}
+
+// What a line begins with: the same for all elements of a peer and a time.
+pub fn put_front(
+    announce: bool,
+    timestamp: f64,
+    peer_ip: IpAddr,
+    peer_asn: Asn,
+    out: &mut [u8],
+) -> Put
+    ensures { λ r. ⌜ (r ≡ answer (frontText announce timestamp «peer_ip» «peer_asn») (now (out .entry))) × (now (out .exit) ≡ front (frontText announce timestamp «peer_ip» «peer_asn») (now (out .entry))) ⌝ }
+{
+    let mut text = [0u8; 90];
+    let n = write_front(announce, timestamp, peer_ip, peer_asn, &mut text, 0);
+    if out.len() < n {
+        return Put::TooShort;
+    }
+    Put::Wrote(output::write_bytes(&text[..n], out, 0))
+}
+
+// to_psv's line behind a front that was printed before, which is not looked at.
+pub fn to_psv_behind(front: &[u8], e: Element, asns: &[u32], out: &mut [u8]) -> ElementPut
+    ensures { λ r. ⌜ Printed (spoilt e (now (asns .entry))) (now (front .entry) ++ restText true e (now (asns .entry))) (now (out .entry)) r (now (out .exit)) ⌝ }
+{
+    put_behind(true, front, e, asns, out)
 }
 
 // Display of the element.

@@ -1,54 +1,48 @@
+use Rattle.psv.proofs.Longest.{front-inside, line-printed}
 use native.Mathlib.Omega.{arith}
+use mathlib.Core.Path.{refl}
 use lib.ListN.{length-take}
-use Rattle.psv.proofs.Printing.{slice-within, put-spoilt, put-short, put-written}
 use borrow.Author.Needs.{needs}
 use Rattle.psv.proofs.put_line.Statement.{statement}
 use Rattle.psv.proofs.put_line.Tie as tie
+use Rattle.psv.proofs.put_line.Reads as reads
+use Rattle.psv.proofs.put_line.Lts as lts
+use Rattle.psv.proofs.put_behind.Reads as put-behind-reads
+use Rattle.psv.proofs.write_front.Reads as write-front-reads
 
-ruleset laws = (put-spoilt, put-short, put-written)
+ruleset laws = (line-printed)
 
-is-spoilt-element-requires : tie.Need-is-spoilt-element-requires
-is-spoilt-element-requires c κs = search needs
+slice-aggregate-write-front : tie.Need-slice-aggregate-write-front
+slice-aggregate-write-front c = search (laws, needs)
+
+write-front-requires : tie.Need-write-front-requires
+write-front-requires c κs = search (laws, needs)
+
+array-share-prefix-front : tie.Need-array-share-prefix-front
+array-share-prefix-front c =
+    omega (arith, front-inside _ _ _ _ (search needs) (search needs) _ _ _ (c .before .write-front .ensures) refl)
+
+slice-aggregate-put-behind : tie.Need-slice-aggregate-put-behind
+slice-aggregate-put-behind c =
+    simp length-take (omega (arith, front-inside _ _ _ _ (search needs) (search needs) _ _ _ (c .before .before .write-front .ensures) refl))
+
+put-behind-requires : tie.Need-put-behind-requires
+put-behind-requires c κs = search (laws, needs)
+
+same-length : tie.Need-same-length
+same-length c = search (laws, needs)
 
 returns : tie.Need-returns
 returns c = search (laws, needs)
-
-slice-aggregate-numbers : tie.Need-slice-aggregate-numbers
-slice-aggregate-numbers c =
-    simp length-take (omega (arith, slice-within _ _ _ (c .before .before .is-spoilt-element .ensures) (c .before .if1 .left)))
-
-line-fits-requires : tie.Need-line-fits-requires
-line-fits-requires c κs = search needs
-
-write-head-requires : tie.Need-write-head-requires
-write-head-requires c κs = search needs
-
-write-numbers-requires : tie.Need-write-numbers-requires
-write-numbers-requires c κs = search needs
-
-write-tail-requires : tie.Need-write-tail-requires
-write-tail-requires c κs = search needs
-
-same-length : tie.Need-same-length
-same-length c = search needs
-
-returns-2 : tie.Need-returns-2
-returns-2 c = search (laws, needs)
-
-returns-3 : tie.Need-returns-3
-returns-3 c = search (laws, needs)
 
 pub put-line-spec : {M : Type 1} → statement M
 put-line-spec =
     tie.close
     (tie.spec
-    is-spoilt-element-requires
-    returns
-    slice-aggregate-numbers
-    line-fits-requires
-    write-head-requires
-    write-numbers-requires
-    write-tail-requires
+    slice-aggregate-write-front
+    write-front-requires
+    array-share-prefix-front
+    slice-aggregate-put-behind
+    put-behind-requires
     same-length
-    returns-2
-    returns-3)
+    returns)

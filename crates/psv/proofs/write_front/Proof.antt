@@ -1,15 +1,15 @@
-use Rattle.psv.proofs.Printing.{peer-written}
+use Rattle.psv.proofs.Printing.{front-written}
 use borrow.Author.Needs.{needs}
-use Rattle.psv.proofs.write_peer.Statement.{statement}
-use Rattle.psv.proofs.write_peer.Tie as tie
-use Rattle.psv.proofs.write_peer.Reads as reads
-use Rattle.psv.proofs.write_peer.Lts as lts
+use Rattle.psv.proofs.write_front.Statement.{statement}
+use Rattle.psv.proofs.write_front.Tie as tie
+use Rattle.psv.proofs.write_front.Reads as reads
+use Rattle.psv.proofs.write_front.Lts as lts
 use Rattle.output.proofs.write_byte.Reads as write-byte-reads
 use Rattle.decimal_display.proofs.write_u32.Reads as write-u32-reads
 use Rattle.network_display.proofs.write_address.Reads as write-address-reads
 use Rattle.psv.proofs.write_start.Reads as write-start-reads
 
-ruleset laws = (peer-written)
+ruleset laws = (front-written)
 
 write-start-requires : tie.Need-write-start-requires
 write-start-requires c κs = search needs
@@ -29,8 +29,8 @@ same-length c = search needs
 returns : tie.Need-returns
 returns c = search (laws, needs)
 
-pub write-peer-spec : {M : Type 1} → statement M
-write-peer-spec =
+pub write-front-spec : {M : Type 1} → statement M
+write-front-spec =
     tie.close
     (tie.spec
     write-start-requires
