@@ -12,7 +12,7 @@ use lib.Seq.{drop-drop, take-all, take-append-add, drop-append-add, getD-drop, p
 use lib.Dec.{leb}
 use borrow.Author.Tests.{le-leb, lt-leb}
 use Rattle.psv_stream.specs.Run.{headerBytes, Prints, Runs, keptLength, kept}
-use Rattle.psv_stream.specs.Parts.{Steps}
+use Rattle.psv_stream.specs.Parts.{Begins, Steps}
 use Rattle.psv_stream.specs.declared.Phase.{Phase}
 use Rattle.psv_stream.specs.declared.Phase.the-variants.{Stopped}
 use Rattle.psv_stream.specs.declared.Step.{Step}
@@ -26,9 +26,10 @@ pub record Came (p₀ : Phase) (s : List ℕ) (ended : Bool) (out₀ : List ℕ)
   pub same : length out ≡ length out₀
   pub kept : drop w out ≡ drop w out₀
   pub prints : Prints ended p₀ s (take w out) p (drop c s)
+  pub stays : (t : List ℕ) → Begins t p₀ → Begins t p
 
 pub none-yet : (p : Phase) (s : List ℕ) (ended : Bool) (out : List ℕ) → Came p s ended out p 0 0 out
-none-yet p s ended out = record { consumed = omega arith; written = omega arith; same = refl; kept = refl; prints = λ later none. refl }
+none-yet p s ended out = record { consumed = omega arith; written = omega arith; same = refl; kept = refl; prints = λ later none. refl; stays = λ t b. b }
 
 module _ (p₀ : Phase) (s : List ℕ) (ended : Bool) (out₀ : List ℕ) (p : Phase) (c w : ℕ) (out : List ℕ) (came : Came p₀ s ended out₀ p c w out) where
   -- there is no room for another line
@@ -42,6 +43,10 @@ module _ (p₀ : Phase) (s : List ℕ) (ended : Bool) (out₀ : List ℕ) (p : P
         wants-input = λ e. absurd (false≢true e);
         wants-room = λ e. inr (omega (arith, came .same));
       }
+
+  -- its lines begin as those of the first
+  pub still-begins : (t : List ℕ) → Begins t p₀ → Begins t p
+  still-begins = came .stays
 
   -- the next line is taken from what is left of the input, and written to what is left of the output
   abbrev left : List ℕ
@@ -106,6 +111,7 @@ module _ (p₀ : Phase) (s : List ℕ) (ended : Bool) (out₀ : List ℕ) (p : P
             same = same-new h;
             kept = new-drop v ∙ took .3 ∙ behind v;
             prints = λ later none. came .prints later none ∙ rw (new-take v, took .4 later none, append-assoc, drop-drop);
+            stays = λ t b. took .5 t (came .stays t b);
           }
 
     -- the last

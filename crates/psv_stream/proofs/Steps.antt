@@ -20,6 +20,7 @@ use Rattle.psv_stream.specs.declared.Front.the-variants as front
 use Rattle.psv_stream.specs.declared.Step.{Step}
 use Rattle.psv_stream.specs.declared.Step.the-variants as step
 use Rattle.psv_stream.proofs.Texts.{put-text, put-behind}
+use Rattle.psv_stream.proofs.Begins.{begins-on}
 
 -- nothing is printed any more
 stopped-rest : (ls : List (List ℕ)) → printedFrom stopped ls ≡ []
@@ -72,6 +73,7 @@ module _ (p : Phase) (s : List ℕ) (ended : Bool) (out new : List ℕ) where
       d .0 .1,
       put-behind (acts p (take e s) .0) out new w (d .0),
       λ later none. rw (put-text (acts p (take e s) .0) out new w (d .0)) (line-rest later none ∙ rw (d .1, rest-next q c later (d .2))),
+      begins-on p (take e s) q (drop c s) (d .1),
     )
     does-steps (step.Stops w) d = (
       d .0 .1,

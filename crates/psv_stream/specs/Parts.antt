@@ -7,11 +7,12 @@ use lib.ListN.{length, take, drop}
 use Rattle.scan.specs.Lines.{lines, lineEnd}
 use Rattle.elem.specs.Element.{spoilt}
 use Rattle.elem.specs.declared.Element.{Element}
-use Rattle.psv.specs.Line.{psvText}
+use Rattle.psv.specs.Line.{psvText, frontText}
 use Rattle.psv.specs.declared.ElementPut.{ElementPut}
 use Rattle.psv.specs.declared.ElementPut.the-variants as put
 use Rattle.timestamp.specs.Dates.{inferTimestamp}
 use Rattle.text_dump.specs.Open.{openOf}
+use Rattle.text_dump.specs.declared.State.{State}
 use Rattle.psv_stream.specs.Printed.{header, stopped, feed}
 use Rattle.psv_stream.specs.Printed as P
 use Rattle.psv_stream.specs.declared.Phase.{Phase}
@@ -37,6 +38,24 @@ acts Path l = P.dated (inferTimestamp l)
 acts (Header t n size) text = P.scanned t (P.after n) text (openOf t text)
 acts (Body σ n) l = P.answered (P.after n) (P.nextOf σ l .0) (P.nextOf σ l .1)
 acts Stopped l = ([], stopped)
+
+-- what the lines of a table begin with, under its state
+abbrev pub frontOf : State → List ℕ
+frontOf σ = frontText true (σ .timestamp) (σ .«peer_ip») (σ .«peer_asn»)
+
+-- a text, if there is any, is the front of a line
+unfoldable pub Starts : List ℕ → List ℕ → Type 0
+Starts t front = 0 < length t → t ≡ front
+
+-- the same by phase: there is such a text only in the body
+abbrev pub isFront : Phase → List ℕ → Type 0
+isFront Path t = ⊥
+isFront (Header x n size) t = ⊥
+isFront (Body σ n) t = t ≡ frontOf σ
+isFront Stopped t = Unit {0}
+
+unfoldable pub Begins : List ℕ → Phase → Type 0
+Begins t p = 0 < length t → isFront p t
 
 -- a text at the front of the lent list, and behind it what stood there
 abbrev pub Puts : List ℕ → List ℕ → List ℕ → ℕ → Type 0
@@ -79,5 +98,6 @@ Does z s e out new step.Starved = ⊥
 abbrev pub Steps : Phase → List ℕ → Bool → List ℕ → List ℕ → Step → Type 0
 Steps p s ended out new (step.Took q c w) =
     (headerBytes p < c + headerBytes q) × (c + headerBytes q ≤ length s) × (w ≤ length out) × (drop w new ≡ drop w out) × Prints ended p s (take w new) q (drop c s)
+    × ((t : List ℕ) → Begins t p → Begins t q)
 Steps p s ended out new (step.Stops w) = (w ≤ length out) × (drop w new ≡ drop w out) × Prints ended p s (take w new) Stopped []
 Steps p s ended out new step.Starved = (new ≡ out) × Starved s (headerBytes p) ended

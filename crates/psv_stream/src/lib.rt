@@ -3,12 +3,13 @@ ghost use mathlib.Core.Path.{_≡_};
 ghost use mathlib.Core.List.{List, [], _++_};
 ghost use Prim.Native.Nat.{ℕ, _≤_};
 ghost use lib.ListN.{length, take};
-ghost use Rattle.psv.specs.Line.{headerText};
+ghost use Rattle.elem.specs.Element.{spoilt};
+ghost use Rattle.psv.specs.Line.{headerText, psvText, peerText, Printed};
 ghost use Rattle.timestamp.specs.Dates.{inferTimestamp};
 ghost use Rattle.text_dump.specs.Open.{openOf};
 ghost use Rattle.psv_stream.specs.Printed.{feed, dated, scanned, printedElement, answered, nextOf};
 ghost use Rattle.psv_stream.specs.Run.{headerBytes, Runs, keptLength, kept};
-ghost use Rattle.psv_stream.specs.Parts.{acts, Puts, PutElement, Refuses, Ends, TooLong, Does, Fronts, Steps};
+ghost use Rattle.psv_stream.specs.Parts.{acts, frontOf, Starts, Begins, Puts, PutElement, Refuses, Ends, TooLong, Does, Fronts, Steps};
 use elem::Element;
 use output::Put;
 use psv::ElementPut;
@@ -147,12 +148,24 @@ fn header_line(t: f64, number: u64, input: &[u8], end: usize, out: &mut [u8]) ->
     }
 }
 
+// An element's line, with its front copied where that was printed before.
+fn print_element(start: &[u8], e: Element, asns: &[u32], out: &mut [u8]) -> ElementPut
+    requires { ⌜ Starts (now start) (peerText e) ⌝ }
+    ensures { λ r. ⌜ Printed (spoilt e (now (asns .entry))) (psvText e (now (asns .entry))) (now (out .entry)) r (now (out .exit)) ⌝ }
+{
+    if start.len() == 0 {
+        return psv::to_psv(e, asns, out);
+    }
+    psv::to_psv_behind(start, e, asns, out)
+}
+
 // An element's line and its line feed.
-fn put_element(e: Element, asns: &[u32], out: &mut [u8]) -> ElementPut
+fn put_element(start: &[u8], e: Element, asns: &[u32], out: &mut [u8]) -> ElementPut
     requires { ⌜ 65537 ≤ length (now out) ⌝ }
+    requires { ⌜ Starts (now start) (peerText e) ⌝ }
     ensures { λ r. ⌜ PutElement e (now (asns .entry)) (now (out .entry)) (now (out .exit)) r ⌝ }
 {
-    let put = psv::to_psv(e, asns, &mut out[..65536]);
+    let put = print_element(start, e, asns, &mut out[..65536]);
     match put {
         ElementPut::Wrote(n) => ElementPut::Wrote(output::write_byte(b'\n', out, n)),
         ElementPut::Spoilt => ElementPut::Spoilt,
@@ -162,6 +175,7 @@ fn put_element(e: Element, asns: &[u32], out: &mut [u8]) -> ElementPut
 
 // The element of the line with that number, behind which the state stands.
 fn element_line(
+    start: &[u8],
     e: Element,
     behind: State,
     number: u64,
@@ -170,9 +184,10 @@ fn element_line(
     out: &mut [u8],
 ) -> Step
     requires { ⌜ 65537 ≤ length (now out) ⌝ }
+    requires { ⌜ Starts (now start) (peerText e) ⌝ }
     ensures { λ r. ⌜ ((s : List ℕ) → Does (printedElement number behind e (take (e .count) (now (asns .entry)))) s end (now (out .entry)) (now (out .exit)) r) ⌝ }
 {
-    let put = put_element(e, asns, out);
+    let put = put_element(start, e, asns, out);
     match put {
         ElementPut::Wrote(n) => Step::Took(Phase::Body(behind, number), end, n),
         ElementPut::Spoilt => refuse(8, number, out),
@@ -182,6 +197,7 @@ fn element_line(
 
 // The line with that number, as a part of the table by itself.
 fn body_line(
+    start: &[u8],
     state: State,
     number: u64,
     input: &[u8],
@@ -191,6 +207,7 @@ fn body_line(
 ) -> Step
     requires { ⌜ 65537 ≤ length (now out) ⌝ }
     requires { ⌜ end ≤ length (now input) ⌝ }
+    requires { ⌜ Starts (now start) (frontOf state) ⌝ }
     ensures { λ r. ⌜ Does (answered number (nextOf state (take end (now (input .entry))) .0) (nextOf state (take end (now (input .entry))) .1)) (now (input .entry)) end (now (out .entry)) (now (out .exit)) r ⌝ }
 {
     let turned = state.turn();
@@ -200,14 +217,22 @@ fn body_line(
         Next::Spoilt(_) => refuse(5, number, out),
         Next::Unreadable(_) => refuse(6, number, out),
         Next::TooFewPlaces(_) => refuse(7, number, out),
-        Next::Element(e, behind) => element_line(e, behind, number, end, asns, out),
+        Next::Element(e, behind) => element_line(start, e, behind, number, end, asns, out),
     }
 }
 
 // A line that ends there, and is not too long.
-fn on_line(phase: Phase, input: &[u8], end: usize, asns: &mut [u32; 16384], out: &mut [u8]) -> Step
+fn on_line(
+    start: &[u8],
+    phase: Phase,
+    input: &[u8],
+    end: usize,
+    asns: &mut [u32; 16384],
+    out: &mut [u8],
+) -> Step
     requires { ⌜ 65537 ≤ length (now out) ⌝ }
     requires { ⌜ end ≤ length (now input) ⌝ }
+    requires { ⌜ Begins (now start) phase ⌝ }
     ensures { λ r. ⌜ Does (acts phase (take end (now (input .entry)))) (now (input .entry)) end (now (out .entry)) (now (out .exit)) r ⌝ }
 {
     match phase {
@@ -218,7 +243,7 @@ fn on_line(phase: Phase, input: &[u8], end: usize, asns: &mut [u32; 16384], out:
         }
         Phase::Body(state, n) => {
             let number = std::num::wrapping_add_u64(n, 1);
-            body_line(state, number, input, end, asns, out)
+            body_line(start, state, number, input, end, asns, out)
         }
         Phase::Stopped => Step::Stops(0),
     }
@@ -237,6 +262,7 @@ fn header_bytes(phase: Phase) -> usize
 }
 
 fn take_line(
+    start: &[u8],
     phase: Phase,
     input: &[u8],
     ended: bool,
@@ -244,6 +270,7 @@ fn take_line(
     out: &mut [u8],
 ) -> Step
     requires { ⌜ 65537 ≤ length (now out) ⌝ }
+    requires { ⌜ Begins (now start) phase ⌝ }
     ensures { λ r. ⌜ Steps phase (now (input .entry)) ended (now (out .entry)) (now (out .exit)) r ⌝ }
 {
     let front = line_at(input, header_bytes(phase), ended);
@@ -251,7 +278,7 @@ fn take_line(
         Front::Starved => Step::Starved,
         Front::Nothing => end(phase, out),
         Front::TooLong => too_long(phase, out),
-        Front::Line(end) => on_line(phase, input, end, asns, out),
+        Front::Line(end) => on_line(start, phase, input, end, asns, out),
     }
 }
 
@@ -266,19 +293,28 @@ pub struct Ran {
 
 // Takes lines as long as there is a whole one, and room for what it may print.
 fn take_lines(
+    start: &[u8],
     phase: Phase,
     input: &[u8],
     ended: bool,
     asns: &mut [u32; 16384],
     out: &mut [u8],
 ) -> Ran
+    requires { ⌜ Begins (now start) phase ⌝ }
     ensures { λ r. ⌜ Runs phase (now (input .entry)) ended (now (out .entry)) r (now (out .exit)) ⌝ }
 {
     let mut phase = phase;
     let mut consumed = 0;
     let mut written = 0;
     while 65537 <= out.len() - written {
-        let step = take_line(phase, &input[consumed..], ended, asns, &mut out[written..]);
+        let step = take_line(
+            start,
+            phase,
+            &input[consumed..],
+            ended,
+            asns,
+            &mut out[written..],
+        );
         match step {
             Step::Starved => {
                 return Ran {
@@ -317,11 +353,30 @@ fn places() -> [u32; 16384] {
     [0; 16384]
 }
 
+// Prints what the lines of the table begin with, if one is being read: how many bytes it has.
+fn put_start(phase: Phase, out: &mut [u8]) -> usize
+    ensures { λ r. ⌜ (r ≤ length (now (out .exit))) × Begins (take r (now (out .exit))) phase ⌝ }
+{
+    let Phase::Body(state, _) = phase else {
+        return 0;
+    };
+    let timestamp = state.timestamp;
+    let peer_ip = state.peer_ip;
+    let peer_asn = state.peer_asn;
+    let Put::Wrote(n) = psv::put_front(true, timestamp, peer_ip, peer_asn, out) else {
+        return 0;
+    };
+    n
+}
+
+// The lines of a table begin with the same text, which is printed once. A run that comes to the body from the header prints each line whole.
 pub fn run(phase: Phase, input: &[u8], ended: bool, out: &mut [u8]) -> Ran
     ensures { λ r. ⌜ Runs phase (now (input .entry)) ended (now (out .entry)) r (now (out .exit)) ⌝ }
 {
     let mut asns = places();
-    take_lines(phase, input, ended, &mut asns, out)
+    let mut start = [0u8; 90];
+    let n = put_start(phase, &mut start);
+    take_lines(&start[..n], phase, input, ended, &mut asns, out)
 }
 
 // Moves the bytes from..end to the front, for more input to come behind them: how many they are.

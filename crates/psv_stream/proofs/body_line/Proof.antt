@@ -1,6 +1,7 @@
 use native.Mathlib.Omega.{arith}
 use lib.ListN.{length-take}
 use Rattle.psv_stream.proofs.Lines.{passed-line, five, six, seven, element-answer}
+use Rattle.psv_stream.proofs.Begins.{element-starts}
 use borrow.Author.Needs.{needs}
 use Rattle.psv_stream.proofs.body_line.Statement.{statement}
 use Rattle.psv_stream.proofs.body_line.Tie as tie
@@ -39,7 +40,10 @@ enum-known-answer-2 : tie.Need-enum-known-answer-2
 enum-known-answer-2 c = search needs
 
 element-line-requires : tie.Need-element-line-requires
-element-line-requires c κs = search needs
+element-line-requires c κs = (
+  search needs,
+  element-starts (c .before .before .before .before .before .before .before .before .before .before .before .before .before .args .state) _ _ _ _ _ _ (c .before .before .before .before .before .before .before .before .before .turn .ensures) (c .before .before .before .before .before .before .next .ensures) _ _ (c .before .before .before .before .answer2 .given .1) _ (c .before .before .before .before .before .before .before .before .before .before .before .before .before .pre .1 .1),
+)
 
 returns : tie.Need-returns
 returns c = search passed-line
@@ -67,7 +71,7 @@ same-length-4 c = search needs
 
 returns-5 : tie.Need-returns-5
 returns-5 c =
-    element-answer (c .before .before .before .before .before .before .before .before .before .before .before .before .before .before .before .args .input .now) (c .before .before .before .before .before .before .before .before .before .before .before .before .before .before .before .args .end) (c .before .before .before .before .before .before .before .before .before .before .before .before .before .before .before .args .out .now) (c .before .before .before .before .before .before .before .before .before .before .before .before .before .before .before .args .state) (c .before .before .before .before .before .before .before .before .before .before .before .before .turn .result) (c .before .before .before .before .before .before .before .before .before .before .before .before .before .before .before .args .number) _ (c .before .before .before .before .before .before .before .before .before .before .before .before .turn .ensures) (search needs) _ (c .before .before .before .before .before .before .before .before .before .next .result) _ (c .before .before .before .before .before .before .before .before .before .next .ensures)
+    element-answer (c .before .before .before .before .before .before .before .before .before .before .before .before .before .before .before .before .args .input .now) (c .before .before .before .before .before .before .before .before .before .before .before .before .before .before .before .before .args .end) (c .before .before .before .before .before .before .before .before .before .before .before .before .before .before .before .before .args .out .now) (c .before .before .before .before .before .before .before .before .before .before .before .before .before .before .before .before .args .state) (c .before .before .before .before .before .before .before .before .before .before .before .before .turn .result) (c .before .before .before .before .before .before .before .before .before .before .before .before .before .before .before .before .args .number) _ (c .before .before .before .before .before .before .before .before .before .before .before .before .turn .ensures) (search needs) _ (c .before .before .before .before .before .before .before .before .before .next .result) _ (c .before .before .before .before .before .before .before .before .before .next .ensures)
     _ _ (c .before .before .before .before .before .before .before .answer2 .given .1) _ (c .before .before .element-line .result) (c .before .before .element-line .ensures)
 
 pub body-line-spec : {M : Type 1} → statement M

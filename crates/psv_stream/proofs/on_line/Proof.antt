@@ -1,4 +1,5 @@
 use Rattle.psv_stream.proofs.Lines.{on-path, on-header, on-body, on-stopped}
+use Rattle.psv_stream.proofs.Begins.{body-starts}
 use borrow.Author.Needs.{needs}
 use Rattle.psv_stream.proofs.on_line.Statement.{statement}
 use Rattle.psv_stream.proofs.on_line.Tie as tie
@@ -25,7 +26,7 @@ wrapping-add-u64-requires-2 : tie.Need-wrapping-add-u64-requires-2
 wrapping-add-u64-requires-2 c κs = search needs
 
 body-line-requires : tie.Need-body-line-requires
-body-line-requires c κs = search needs
+body-line-requires c κs = (search needs, (search needs, search body-starts))
 
 enum-told-2 : tie.Need-enum-told-2
 enum-told-2 c = search needs

@@ -30,7 +30,7 @@ enum-known-front : tie.Need-enum-known-front
 enum-known-front c = search needs
 
 on-line-requires : tie.Need-on-line-requires
-on-line-requires c κs = search (laws, needs)
+on-line-requires c κs = (search needs, (search (laws, needs), search needs))
 
 returns : tie.Need-returns
 returns c = search starved-steps

@@ -3,17 +3,17 @@ use native.Mathlib.Omega.{arith}
 use lib.ListN.{length}
 use borrow.Author.Needs.{needs}
 use Rattle.psv_stream.specs.Run.{headerBytes}
-use Rattle.psv_stream.proofs.Runs.{Came, none-yet, full, room-length, same-new, inside, within, stops-within, fewer, takes, stops, starves}
+use Rattle.psv_stream.proofs.Runs.{Came, none-yet, full, room-length, same-new, inside, within, stops-within, fewer, still-begins, takes, stops, starves}
 use Rattle.psv_stream.proofs.take_lines.Statement.{statement}
 use Rattle.psv_stream.proofs.take_lines.Tie as tie
 
-ruleset laws = (none-yet, full, room-length, same-new, inside, within, stops-within, fewer, takes, stops, starves)
+ruleset laws = (none-yet, full, room-length, same-new, inside, within, stops-within, fewer, still-begins, takes, stops, starves)
 
 abbrev Inv-loop : tie.InvT-loop
-Inv-loop input ended asns₀ out₀ phase₀ consumed₀ written₀ asns out phase consumed written = Came phase₀ input ended out₀ phase consumed written out
+Inv-loop start input ended asns₀ out₀ phase₀ consumed₀ written₀ asns out phase consumed written = Came phase₀ input ended out₀ phase consumed written out
 
 abbrev μ-loop : tie.MeasureT-loop
-μ-loop input ended asns₀ out₀ phase₀ consumed₀ written₀ asns out phase consumed written = length input - (consumed + headerBytes phase)
+μ-loop start input ended asns₀ out₀ phase₀ consumed₀ written₀ asns out phase consumed written = length input - (consumed + headerBytes phase)
 
 loop-holds : tie.Need-loop-holds Inv-loop μ-loop
 loop-holds c = search none-yet
@@ -56,7 +56,7 @@ enum-known-step c = search (laws, needs)
 
 add-all : tie.Need-add-all Inv-loop μ-loop
 add-all c =
-    let h : c .before .before .before .before .before .before .before .before .before .before .loop .written + c .before .step .given .0 .0 ≤ length (c .before .before .before .before .before .before .before .before .before .before .before .before .before .args .out .now) = search laws in omega (arith, h)
+    let h : c .before .before .before .before .before .before .before .before .before .before .loop .written + c .before .step .given .0 .0 ≤ length (c .before .before .before .before .before .before .before .before .before .before .before .before .before .before .args .out .now) = search laws in omega (arith, h)
 
 same-length-2 : tie.Need-same-length-2 Inv-loop μ-loop
 same-length-2 c = search (laws, needs)
@@ -69,11 +69,11 @@ enum-known-step-2 c = search (laws, needs)
 
 add-consumed : tie.Need-add-consumed Inv-loop μ-loop
 add-consumed c =
-    let h : c .before .before .before .before .before .before .before .before .before .before .loop .consumed + c .before .step2 .given .0 .1 .0 ≤ length (c .before .before .before .before .before .before .before .before .before .before .before .before .before .args .input .now) = search laws in omega (arith, h)
+    let h : c .before .before .before .before .before .before .before .before .before .before .loop .consumed + c .before .step2 .given .0 .1 .0 ≤ length (c .before .before .before .before .before .before .before .before .before .before .before .before .before .before .args .input .now) = search laws in omega (arith, h)
 
 add-written : tie.Need-add-written Inv-loop μ-loop
 add-written c =
-    let h : c .before .before .before .before .before .before .before .before .before .before .loop .written + c .before .step2 .given .0 .1 .1 .0 ≤ length (c .before .before .before .before .before .before .before .before .before .before .before .before .before .args .out .now) = search laws in omega (arith, h)
+    let h : c .before .before .before .before .before .before .before .before .before .before .loop .written + c .before .step2 .given .0 .1 .1 .0 ≤ length (c .before .before .before .before .before .before .before .before .before .before .before .before .before .before .args .out .now) = search laws in omega (arith, h)
 
 loop-less : tie.Need-loop-less Inv-loop μ-loop
 loop-less c = search fewer
