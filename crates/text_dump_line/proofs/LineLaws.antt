@@ -31,7 +31,7 @@ use Rattle.columns.specs.declared.Columns.{Columns}
 use Rattle.columns.specs.declared.ColumnsRead.{ColumnsRead}
 use Rattle.columns.specs.declared.ColumnsRead.the-variants.{Found, Nothing as NoColumns}
 use Rattle.path_text.specs.Path.{originOf}
-use Rattle.text_dump_line.specs.Line.{slice, column, displayed, prefixAs, prefixText, pathStart, entryOf, pathOf, routeTo, routeOf, anyRoute, wrappedOf, lineFrom, lineOf}
+use Rattle.text_dump_line.specs.Line.{slice, column, displayed, prefixAs, prefixText, pathStart, entryOf, pathOf, routeTo, routeOf, routeIf, orElse, anyRoute, wrappedOf, lineFrom, lineOf}
 use Rattle.elem.specs.declared.OptOrigin.{OptOrigin}
 use Rattle.text_dump_line.specs.declared.PrefixText.{PrefixText}
 use Rattle.text_dump_line.specs.declared.PrefixText.the-variants.{Blank, Invalid, Valid}
@@ -188,20 +188,36 @@ module _ (t : List ℕ) (c : Columns) (d : Bool) (qd : d ≡ displayed t) where
         let w : Route p e ≡ routeTo c t (Address hop) = rw (ee, ep) in
         w ∙ sym (by-address ∙ ap (routeTo c t) f)
 
--- by the columns, else by those shifted
-module _ (t : List ℕ) (c : Columns) (r : RouteRead) (q : r ≡ routeOf c t) where
-  pub first-route : (p : PrefixText) (e : RouteEntry) → r ≡ Route p e → r ≡ anyRoute c t
-  unfolding anyRoute
-  first-route p e f = rw (← q, f)
+-- by the columns, else by those shifted: what is still to be tried
+abbrev pub toTry : Bool → Columns → List ℕ → RouteRead
+toTry isShifted c t = orElse (routeOf c t) (cond isShifted NoRoute (routeIf (shiftLeft c) t))
 
-  module _ (n : r ≡ NoRoute) (s : ColumnsRead) (qs : s ≡ shiftLeft c) where
-    pub unshifted : s ≡ NoColumns → NoRoute ≡ anyRoute c t
-    unfolding anyRoute
-    unshifted f = rw (← q, n, ← qs, f)
+pub all-to-try : (t : List ℕ) (c : Columns) → anyRoute c t ≡ toTry false c t
+unfolding anyRoute
+all-to-try t c = refl
 
-    pub shifted-route : (c′ : Columns) → s ≡ Found c′ → (v : RouteRead) → v ≡ routeOf c′ t → v ≡ anyRoute c t
-    unfolding anyRoute
-    shifted-route c′ f v e = rw (← q, n, ← qs, f, e)
+else-nothing : (r : RouteRead) → orElse r NoRoute ≡ r
+else-nothing (Route p e) = refl
+else-nothing NoRoute = refl
+
+module _ (t : List ℕ) (c₀ c : Columns) (z : Bool) (i : anyRoute c₀ t ≡ toTry z c t) (r : RouteRead) (q : r ≡ routeOf c t) where
+  pub tried-route : (p : PrefixText) (e : RouteEntry) → r ≡ Route p e → r ≡ anyRoute c₀ t
+  tried-route p e f = sym (i ∙ rw (← q, f))
+
+  module _ (n : r ≡ NoRoute) where
+    pub all-tried : z ≡ true → NoRoute ≡ anyRoute c₀ t
+    all-tried y = sym (i ∙ rw (← q, n, y))
+
+    module _ (y : z ≡ false) (s : ColumnsRead) (qs : s ≡ shiftLeft c) where
+      pub unshifted : s ≡ NoColumns → NoRoute ≡ anyRoute c₀ t
+      unshifted f = sym (i ∙ rw (← q, n, y, ← qs, f))
+
+      pub shifted-to-try : (c′ : Columns) → s ≡ Found c′ → anyRoute c₀ t ≡ toTry true c′ t
+      shifted-to-try c′ f = i ∙ rw (← q, n, y, ← qs, f) (sym (else-nothing (routeOf c′ t)))
+
+-- they are shifted once
+pub shifted-once : (z : Bool) → z ≡ false → cond true 0 1 < cond z 0 1
+shifted-once z y = rw y (omega arith)
 
 pub trimmed-route : (s : List ℕ) (c : Columns) (t : List ℕ) (r : RouteRead) → t ≡ trimEnd s → r ≡ routeOf c t → r ≡ routeOf c (trimEnd s)
 trimmed-route s c t r e f = rw (f, e)

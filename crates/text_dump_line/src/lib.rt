@@ -133,18 +133,26 @@ fn route_in(t: &[u8], c: Columns) -> RouteRead
     RouteRead::Route(prefix, entry_of(t, c, next_hop))
 }
 
-// By the columns, else by those shifted.
+// By the columns, else by those shifted. One place calls, so that the compiler joins the two functions and copies no route in between.
 fn any_route(t: &[u8], c: Columns) -> RouteRead
     ensures { λ r. ⌜ r ≡ anyRoute c (now (t .entry)) ⌝ }
 {
-    let first = route_in(t, c);
-    if let RouteRead::Route(_, _) = first {
-        return first;
+    let mut tried = c;
+    let mut is_shifted = false;
+    loop {
+        let route = route_in(t, tried);
+        if let RouteRead::Route(_, _) = route {
+            return route;
+        }
+        if is_shifted {
+            return RouteRead::Nothing;
+        }
+        let ColumnsRead::Found(shifted) = columns::shift_columns_left(tried) else {
+            return RouteRead::Nothing;
+        };
+        tried = shifted;
+        is_shifted = true;
     }
-    let ColumnsRead::Found(shifted) = columns::shift_columns_left(c) else {
-        return RouteRead::Nothing;
-    };
-    route_in(t, shifted)
 }
 
 pub fn parse_route_line(line: &[u8], columns: Columns) -> RouteRead
