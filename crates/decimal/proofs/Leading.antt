@@ -2,10 +2,9 @@
 use Prim.Native.Nat.{ℕ, zero, suc, _+_, _-_, _*_, _^_, _≤_, _<_}
 use mathlib.Core.Path.{_≡_, refl, sym, ap, _∙_}
 use mathlib.Core.Bool.{Bool, true, false, cond, _&&_}
-use mathlib.Core.List.{List, [], _∷_, _++_, append-nil, append-assoc}
-use mathlib.Core.Option.{Option, some, none}
+use mathlib.Core.List.{List, [], _∷_, _++_, append-nil}
+use mathlib.Core.Option.{some}
 use native.Mathlib.Omega.{arith}
-use native.Mathlib.Numerals.{add-one}
 use native.Mathlib.Nat.{zero-add, pow-le-pow-right}
 use mir.Syntax.{w32}
 use mir.Val.{Fits}
@@ -16,7 +15,7 @@ use borrow.Author.Tests.{le-leb, lt-leb, leb-true, leb-false}
 use Rattle.decimal.specs.Decimal.{isDigit, behind, digits, leading, orZero, digitsAt}
 use Rattle.decimal.specs.declared.DigitsRead.{DigitsRead}
 use Rattle.decimal.specs.declared.DigitsRead.the-variants.{Digits, Many}
-use Rattle.decimal.proofs.Laws.{none-some, behind-cons, behind-append, behind-bound}
+use Rattle.decimal.proofs.Laws.{behind-cons, behind-append, behind-bound}
 use Rattle.decimal.proofs.Reading.{start}
 
 -- the bytes of s from i up to e

@@ -2,9 +2,6 @@ use Rattle.psv.proofs.Printing.{line-none, line-rest}
 use borrow.Author.Needs.{needs}
 use Rattle.psv.proofs.line_fits.Statement.{statement}
 use Rattle.psv.proofs.line_fits.Tie as tie
-use Rattle.psv.proofs.line_fits.Reads as reads
-use Rattle.psv.proofs.line_fits.Lts as lts
-use Rattle.psv.proofs.rest_fits.Reads as rest-fits-reads
 
 ruleset laws = (line-none, line-rest)
 

@@ -4,14 +4,6 @@ use Rattle.psv.proofs.Printing.{slice-within, put-spoilt, put-short, pu
 use borrow.Author.Needs.{needs}
 use Rattle.psv.proofs.put_behind.Statement.{statement}
 use Rattle.psv.proofs.put_behind.Tie as tie
-use Rattle.psv.proofs.put_behind.Reads as reads
-use Rattle.psv.proofs.put_behind.Lts as lts
-use Rattle.aspath_display.proofs.write_numbers.Reads as write-numbers-reads
-use Rattle.elem.proofs.is_spoilt_element.Reads as is-spoilt-element-reads
-use Rattle.output.proofs.write_bytes.Reads as write-bytes-reads
-use Rattle.psv.proofs.line_fits.Reads as line-fits-reads
-use Rattle.psv.proofs.write_prefix.Reads as write-prefix-reads
-use Rattle.psv.proofs.write_tail.Reads as write-tail-reads
 
 ruleset laws = (put-spoilt, put-short, put-written)
 

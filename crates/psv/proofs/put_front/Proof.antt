@@ -5,10 +5,6 @@ use lib.ListN.{length-take}
 use borrow.Author.Needs.{needs}
 use Rattle.psv.proofs.put_front.Statement.{statement}
 use Rattle.psv.proofs.put_front.Tie as tie
-use Rattle.psv.proofs.put_front.Reads as reads
-use Rattle.psv.proofs.put_front.Lts as lts
-use Rattle.output.proofs.write_bytes.Reads as write-bytes-reads
-use Rattle.psv.proofs.write_front.Reads as write-front-reads
 
 slice-aggregate-write-front : tie.Need-slice-aggregate-write-front
 slice-aggregate-write-front c = search needs

@@ -5,10 +5,6 @@ use lib.ListN.{length-take}
 use borrow.Author.Needs.{needs}
 use Rattle.psv.proofs.put_line.Statement.{statement}
 use Rattle.psv.proofs.put_line.Tie as tie
-use Rattle.psv.proofs.put_line.Reads as reads
-use Rattle.psv.proofs.put_line.Lts as lts
-use Rattle.psv.proofs.put_behind.Reads as put-behind-reads
-use Rattle.psv.proofs.write_front.Reads as write-front-reads
 
 ruleset laws = (line-printed)
 

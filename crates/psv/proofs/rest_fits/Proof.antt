@@ -3,12 +3,6 @@ use Rattle.psv.proofs.Longest.{rest-surely}
 use borrow.Author.Needs.{needs}
 use Rattle.psv.proofs.rest_fits.Statement.{statement}
 use Rattle.psv.proofs.rest_fits.Tie as tie
-use Rattle.psv.proofs.rest_fits.Reads as reads
-use Rattle.psv.proofs.rest_fits.Lts as lts
-use Rattle.network_display.proofs.prefix_text_len.Reads as prefix-text-len-reads
-use Rattle.psv.proofs.has_room.Reads as has-room-reads
-use Rattle.psv.proofs.surely_fits.Reads as surely-fits-reads
-use Rattle.psv.proofs.tail_len.Reads as tail-len-reads
 
 ruleset laws = (rest-none, rest-measured, rest-surely)
 

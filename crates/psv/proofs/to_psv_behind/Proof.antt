@@ -1,9 +1,6 @@
 use borrow.Author.Needs.{needs}
 use Rattle.psv.proofs.to_psv_behind.Statement.{statement}
 use Rattle.psv.proofs.to_psv_behind.Tie as tie
-use Rattle.psv.proofs.to_psv_behind.Reads as reads
-use Rattle.psv.proofs.to_psv_behind.Lts as lts
-use Rattle.psv.proofs.put_behind.Reads as put-behind-reads
 
 put-behind-requires : tie.Need-put-behind-requires
 put-behind-requires c κs = search needs

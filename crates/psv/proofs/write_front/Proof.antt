@@ -2,12 +2,6 @@ use Rattle.psv.proofs.Printing.{front-written}
 use borrow.Author.Needs.{needs}
 use Rattle.psv.proofs.write_front.Statement.{statement}
 use Rattle.psv.proofs.write_front.Tie as tie
-use Rattle.psv.proofs.write_front.Reads as reads
-use Rattle.psv.proofs.write_front.Lts as lts
-use Rattle.output.proofs.write_byte.Reads as write-byte-reads
-use Rattle.decimal_display.proofs.write_u32.Reads as write-u32-reads
-use Rattle.network_display.proofs.write_address.Reads as write-address-reads
-use Rattle.psv.proofs.write_start.Reads as write-start-reads
 
 ruleset laws = (front-written)
 

@@ -2,10 +2,6 @@ use Rattle.psv.proofs.Printing.{between-written}
 use borrow.Author.Needs.{needs}
 use Rattle.psv.proofs.write_prefix.Statement.{statement}
 use Rattle.psv.proofs.write_prefix.Tie as tie
-use Rattle.psv.proofs.write_prefix.Reads as reads
-use Rattle.psv.proofs.write_prefix.Lts as lts
-use Rattle.network_display.proofs.write_prefix.Reads as write-prefix-reads
-use Rattle.output.proofs.write_byte.Reads as write-byte-reads
 
 ruleset laws = (between-written)
 

@@ -2,10 +2,6 @@ use Rattle.psv_stream.proofs.Begins.{behind-printed}
 use borrow.Author.Needs.{needs}
 use Rattle.psv_stream.proofs.print_element.Statement.{statement}
 use Rattle.psv_stream.proofs.print_element.Tie as tie
-use Rattle.psv_stream.proofs.print_element.Reads as reads
-use Rattle.psv_stream.proofs.print_element.Lts as lts
-use Rattle.psv.proofs.to_psv.Reads as to-psv-reads
-use Rattle.psv.proofs.to_psv_behind.Reads as to-psv-behind-reads
 
 ruleset laws = (behind-printed)
 

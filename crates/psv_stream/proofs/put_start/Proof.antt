@@ -2,9 +2,6 @@ use Rattle.psv_stream.proofs.Begins.{nothing-begins, front-begins}
 use borrow.Author.Needs.{needs}
 use Rattle.psv_stream.proofs.put_start.Statement.{statement}
 use Rattle.psv_stream.proofs.put_start.Tie as tie
-use Rattle.psv_stream.proofs.put_start.Reads as reads
-use Rattle.psv_stream.proofs.put_start.Lts as lts
-use Rattle.psv.proofs.put_front.Reads as put-front-reads
 
 ruleset laws = (nothing-begins, front-begins)
 

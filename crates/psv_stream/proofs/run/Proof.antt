@@ -3,11 +3,6 @@ use lib.ListN.{length-take}
 use borrow.Author.Needs.{needs}
 use Rattle.psv_stream.proofs.run.Statement.{statement}
 use Rattle.psv_stream.proofs.run.Tie as tie
-use Rattle.psv_stream.proofs.run.Reads as reads
-use Rattle.psv_stream.proofs.run.Lts as lts
-use Rattle.psv_stream.proofs.places.Reads as places-reads
-use Rattle.psv_stream.proofs.put_start.Reads as put-start-reads
-use Rattle.psv_stream.proofs.take_lines.Reads as take-lines-reads
 
 places-requires : tie.Need-places-requires
 places-requires c κs = search needs
