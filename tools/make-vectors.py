@@ -562,7 +562,7 @@ def left(r, mark=","):
     return f" {hexed(bytes(r[0]))} {''.join(mark + str(a) for a in r[1])} {''.join(mark + str(a) for a in r[2])}"
 
 
-def padded(new, old, n):
+def laid_out(new, old, n):
     return new + [0] * (n - len(new)) + old[n:]
 
 
@@ -570,7 +570,7 @@ def normalised(r, q, numbers=True):
     """The record r, in whose places the path q was laid out; freed places are 0. Without `numbers` they stay as they were."""
     ks, ls, ns = lists(q)
     assert numbers or ns == r[2][: r[4]]
-    return padded(ks, r[0], r[3]), padded(ls, r[1], r[3]), padded(ns, r[2], r[4]) if numbers else r[2], r[3], r[4]
+    return laid_out(ks, r[0], r[3]), laid_out(ls, r[1], r[3]), laid_out(ns, r[2], r[4]) if numbers else r[2], r[3], r[4]
 
 
 def counts(q):
@@ -1011,9 +1011,9 @@ def psv_cases(rng):
 # ---- psv_stream
 
 LIMIT = 65536  # 01: bytes of a line, of the lines scanned for the column header, and of an output line
-PREAMBLE = [b"BGP table version is 7, local router ID is 192.0.2.254, vrf id 0\n", b"Default local pref 100, local AS 64500\n"]
-COLUMN_LINE = b"   Network          Next Hop            Metric LocPrf Weight Path\n"
-HEADER_LINES = PREAMBLE + [COLUMN_LINE]
+PREAMBLE_LINES = [b"BGP table version is 7, local router ID is 192.0.2.254, vrf id 0\n", b"Default local pref 100, local AS 64500\n"]
+COLUMN_LINE_FED = b"   Network          Next Hop            Metric LocPrf Weight Path\n"
+HEADER_LINES = PREAMBLE_LINES + [COLUMN_LINE_FED]
 PATH_LINE = b"oix-full-snapshot-2024-03-01-0000.txt\n"
 ROUTE = b"*> 198.51.100.0/24  192.0.2.1                0             0 64501 64502 i\n"
 BLANK_ROUTE = b"*                   192.0.2.2                     150      0 64503 64502 i\n"
@@ -1137,15 +1137,15 @@ def limits():
             yield "header", PATH_LINE + b"".join(lines) + body
             yield "header", PATH_LINE + b"".join(lines)[:-1]
         lines = [b"x" * (size // 4 - 1) + b"\n"] * 3
-        yield "header", PATH_LINE + b"".join(lines) + b" " * (size - 3 * (size // 4) - len(COLUMN_LINE)) + COLUMN_LINE + body
+        yield "header", PATH_LINE + b"".join(lines) + b" " * (size - 3 * (size // 4) - len(COLUMN_LINE_FED)) + COLUMN_LINE_FED + body
         yield "header", PATH_LINE + b"x\n" + b"\xff" * (size - 3) + b"\n" + header
         yield "header", PATH_LINE + b"\xff\n" + b"x" * size + b"\n" + header
         yield "header", PATH_LINE + b"x" * size
     for n in (0, 1, 62, 63, 64, 65):
-        yield "scan", PATH_LINE + b"x\n" * n + COLUMN_LINE + body
+        yield "scan", PATH_LINE + b"x\n" * n + COLUMN_LINE_FED + body
         yield "scan", PATH_LINE + b"x\n" * n
-        yield "scan", PATH_LINE + b"x\n" * n + b"\xff\n" + COLUMN_LINE + body
-        yield "scan", PATH_LINE + b"x\n" * n + b"x" * (LIMIT + 1) + b"\n" + COLUMN_LINE
+        yield "scan", PATH_LINE + b"x\n" * n + b"\xff\n" + COLUMN_LINE_FED + body
+        yield "scan", PATH_LINE + b"x\n" * n + b"x" * (LIMIT + 1) + b"\n" + COLUMN_LINE_FED
     for size in (LIMIT - 1, LIMIT, LIMIT + 1, 2 * LIMIT, 3 * LIMIT):
         for line in (ROUTE, BLANK_ROUTE, b"*> 10.0.0.0/8\n", b"Displayed\n", b"\xff\n"):
             yield "body", PATH_LINE + header + ROUTE + padded(line, size) + BLANK_ROUTE
@@ -1298,7 +1298,7 @@ def write_file(name, file, make):
         for q, a in cases:
             group = q.split(" ")[0]
             assert group == last or group not in groups, f"the cases of {group} do not stand together"
-            assert "\t" not in q and "\n" not in a and not a.startswith("bad"), (q, a)
+            assert "\t" not in q and "\n" not in a and a.split(" ")[0] != "bad", (q, a)
             groups[group], last = groups.get(group, 0) + 1, group
             out.write(f"{q}\t{a}\n")
         assert out.tell() < 2 << 20, "the list is longer than the program's buffer of 2 MiB"
