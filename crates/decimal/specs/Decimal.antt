@@ -64,6 +64,6 @@ abbrev pub orZero : Option ℕ → ℕ
 orZero (some n) = n
 orZero none = 0
 
--- those from the place i on: what they make (0 where there are none), and the place behind them
+-- those from the place i on, where they are at most nine: what they make (0 where there are none), and the place behind them
 unfoldable pub digitsAt : List ℕ → ℕ → DigitsRead
 digitsAt s i = let d = leading (drop i s) in cond (leb (length d) 9) (Digits (orZero (behind 0 d)) (i + length d)) Many

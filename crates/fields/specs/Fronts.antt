@@ -1,4 +1,4 @@
--- What the quick ways may say: that an octet, an address, a length, a number stands at a place. Where they say nothing, nothing is known.
+-- What the quick ways may say: that an octet, an address, a length stands at a place. Where they say nothing, nothing is known.
 use Prim.Native.Nat.{ℕ, _+_, _-_, _≤_, _<_}
 use mathlib.Core.Path.{_≡_}
 use mathlib.Core.Bool.{Bool, true, cond}
