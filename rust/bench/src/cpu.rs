@@ -1,14 +1,7 @@
-//! Processor time, user and system together, of this process or of its children that have ended. On a machine that others use
-//! too it says more than the clock.
+//! Processor time of this process, user and system together. On a machine that others use too it says more than the clock.
 
 use std::mem::MaybeUninit;
 use std::time::Duration;
-
-#[derive(Clone, Copy)]
-pub enum Who {
-    Own = 0,
-    Children = -1,
-}
 
 #[repr(C)]
 struct Time {
@@ -27,11 +20,13 @@ extern "C" {
     fn getrusage(who: i32, usage: *mut Usage) -> i32;
 }
 
-pub fn time(who: Who) -> Duration {
+const THIS_PROCESS: i32 = 0;
+
+pub fn time() -> Duration {
     let mut usage = MaybeUninit::<Usage>::zeroed();
     // All bits zero is a value of the struct, and the call fills it in.
     let usage = unsafe {
-        assert_eq!(getrusage(who as i32, usage.as_mut_ptr()), 0);
+        assert_eq!(getrusage(THIS_PROCESS, usage.as_mut_ptr()), 0);
         usage.assume_init()
     };
     let one = |t: &Time| Duration::from_secs(t.seconds as u64) + Duration::from_micros(t.microseconds as u64);

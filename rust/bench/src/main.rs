@@ -1,4 +1,4 @@
-//! How fast listings are read, beside the Rust reader on the same files.
+//! How fast listings are read, beside the Rust reader on the same files, in one process.
 //!
 //!     bench [RUNS [MB..]]
 //!
@@ -6,26 +6,29 @@
 //! (9 if it is not given) in each way, the ways taking turns:
 //!
 //! - reading alone: open, then next until End over parts of 64 KiB, through the exported calls, and through the wrapper's types;
-//!   beside `oracle parse`, if the environment names the oracle in ORACLE;
-//! - from the listing to PSV lines: the program table2psv, if the environment names it in TABLE2PSV; beside `oracle run`.
+//!   beside `oracle parse`;
+//! - from the listing to PSV lines, which are thrown away: the program table2psv, beside `oracle run`.
 //!
-//! Of the runs the fastest counts, by processor time (user and system). No buffer is cleared between calls. The number of elements,
-//! and all that is printed as PSV lines, must be the same in each way.
+//! Both programs are linked in when the bench is built, if they are at hand (build.rs); else a line says which is left out, and why.
+//! Of the runs the fastest counts, by processor time (user and system). No buffer is cleared between calls. First the number of
+//! elements, and a sum over all that is printed as PSV lines, are seen to be the same in each way.
 //!
 //!     bench make MB FILE       makes a listing
 //!     bench read RUNS FILE     reads one through the exported calls and does nothing else, for a profiler
 
 mod cpu;
+mod lines;
 
-use cpu::Who;
+#[cfg(oracle)]
+extern crate oracle;
+
 use fernweeks::{calls, Asn, Next, Parts, State, ELEMENT_LEN, HEADER_LINES, STATE_LEN};
 use listings::{table, Random};
 use std::env;
 use std::error::Error;
 use std::fs::{self, File};
-use std::io::Read;
 use std::path::{Path, PathBuf};
-use std::process::{Command, Stdio};
+use std::process;
 use std::time::Duration;
 
 type Answer<T> = Result<T, Box<dyn Error>>;
@@ -77,43 +80,20 @@ fn read_by_types(file: &Path) -> Answer<u64> {
     Ok(elements)
 }
 
-/// Elements of a listing, as the Rust reader counts them.
-fn read_by_oracle(oracle: &Path, file: &Path) -> Answer<u64> {
-    let output = Command::new(oracle).args(["parse", "0"]).arg(file).output()?;
-    Ok(String::from_utf8(output.stdout)?.trim().parse()?)
-}
-
-/// What a program prints, as a number that tells texts apart. The listing, a path line before it, is its standard input.
-fn printed(program: &Path, arguments: &[&str], file: &Path) -> Answer<u64> {
-    let mut child = Command::new(program).args(arguments).stdin(File::open(file)?).stdout(Stdio::piped()).spawn()?;
-    let mut output = child.stdout.take().ok_or("no output")?;
-    let (mut sum, mut buffer) = (0u64, vec![0; 1 << 20]);
-    loop {
-        let n = output.read(&mut buffer)?;
-        if n == 0 {
-            break;
-        }
-        for byte in &buffer[..n] {
-            sum = sum.wrapping_mul(0x0100_0000_01b3).wrapping_add(u64::from(*byte) + 1);
-        }
-    }
-    child.wait()?;
-    Ok(sum)
-}
-
-/// Runs a program with its output thrown away.
-fn print_to_nowhere(program: &Path, arguments: &[&str], file: &Path) -> Answer<()> {
-    let status = Command::new(program).args(arguments).stdin(File::open(file)?).stdout(Stdio::null()).status()?;
-    status.success().then_some(()).ok_or_else(|| format!("{} failed", program.display()).into())
-}
-
-type Run<'a> = Box<dyn Fn() -> Answer<()> + 'a>;
-
-/// One way of doing the job: its name, whose time counts, and the job done once.
+/// One way of doing the job: its name, and the job done once. The answer is the number of elements read or, if it is asked for, a sum
+/// over all that is printed.
 struct Way<'a> {
     name: &'a str,
-    who: Who,
-    run: Run<'a>,
+    run: &'a dyn Fn(bool) -> Answer<u64>,
+}
+
+/// What every way answers.
+fn agreed(ways: &[Way]) -> Answer<u64> {
+    let answers = ways.iter().map(|way| (way.run)(true)).collect::<Answer<Vec<_>>>()?;
+    match ways.iter().zip(&answers).find(|(_, answer)| **answer != answers[0]) {
+        Some((way, _)) => Err(format!("{} and {} do not agree", ways[0].name, way.name).into()),
+        None => Ok(answers.first().copied().unwrap_or(0)),
+    }
 }
 
 /// Times each way, and prints MB/s and how each stands to the last.
@@ -121,9 +101,9 @@ fn race(title: &str, bytes: u64, runs: usize, ways: &[Way]) -> Answer<()> {
     let mut best = vec![Duration::MAX; ways.len()];
     for _ in 0..runs {
         for (way, best) in ways.iter().zip(&mut best) {
-            let before = cpu::time(way.who);
-            (way.run)()?;
-            *best = (*best).min(cpu::time(way.who) - before);
+            let before = cpu::time();
+            (way.run)(false)?;
+            *best = (*best).min(cpu::time() - before);
         }
     }
     let Some(last) = best.last() else { return Ok(()) };
@@ -135,41 +115,30 @@ fn race(title: &str, bytes: u64, runs: usize, ways: &[Way]) -> Answer<()> {
     Ok(())
 }
 
-fn bench(file: &Path, with_path: &Path, megabytes: usize, runs: usize) -> Answer<()> {
-    let program = |name: &str| env::var_os(name).map(PathBuf::from);
-    let (oracle, table2psv) = (program("ORACLE"), program("TABLE2PSV"));
-    let bytes = fs::metadata(file)?.len();
+/// A listing's file, and one with a path line before it.
+struct Files {
+    listing: PathBuf,
+    with_path: PathBuf,
+}
 
-    let elements = read_by_calls(file)?;
-    if read_by_types(file)? != elements {
-        return Err("the calls and the wrapper's types count different elements".into());
-    }
-    let mut ways = vec![
-        Way { name: "exported calls", who: Who::Own, run: Box::new(|| read_by_calls(file).map(drop)) },
-        Way { name: "wrapper's types", who: Who::Own, run: Box::new(|| read_by_types(file).map(drop)) },
+fn bench(files: &Files, megabytes: usize, runs: usize) -> Answer<()> {
+    let reading: &[Way] = &[
+        Way { name: "exported calls", run: &|_| read_by_calls(&files.listing) },
+        Way { name: "wrapper's types", run: &|_| read_by_types(&files.listing) },
+        #[cfg(oracle)]
+        Way { name: "oracle parse", run: &|_| Ok(oracle::parse(&files.listing)?) },
     ];
-    if let Some(oracle) = &oracle {
-        if read_by_oracle(oracle, file)? != elements {
-            return Err("the oracle counts other elements".into());
-        }
-        ways.push(Way { name: "oracle parse", who: Who::Children, run: Box::new(|| read_by_oracle(oracle, file).map(drop)) });
-    }
-    println!("{megabytes} MB: {bytes} bytes, {elements} elements");
-    race("reading alone", bytes, runs, &ways)?;
-
-    let mut ways = Vec::new();
-    if let Some(table2psv) = &table2psv {
-        let run = || print_to_nowhere(table2psv, &[], with_path);
-        ways.push(Way { name: "table2psv", who: Who::Children, run: Box::new(run) });
-        if let Some(oracle) = &oracle {
-            if printed(table2psv, &[], with_path)? != printed(oracle, &["run", "path"], with_path)? {
-                return Err("table2psv and the oracle print different lines".into());
-            }
-            let run = || print_to_nowhere(oracle, &["run", "path"], with_path);
-            ways.push(Way { name: "oracle run", who: Who::Children, run: Box::new(run) });
-        }
-    }
-    race("listing to PSV lines", bytes, runs, &ways)
+    let printing: &[Way] = &[
+        #[cfg(table2psv)]
+        Way { name: "table2psv", run: &|summed| Ok(lines::print(summed, |out| lines::table2psv::run(&files.with_path, out))?) },
+        #[cfg(oracle)]
+        Way { name: "oracle run", run: &|summed| Ok(lines::print(summed, |out| oracle::run(&files.with_path, out))?) },
+    ];
+    let bytes = fs::metadata(&files.listing)?.len();
+    println!("{megabytes} MB: {bytes} bytes, {} elements", agreed(reading)?);
+    agreed(printing)?;
+    race("reading alone", bytes, runs, reading)?;
+    race("listing to PSV lines", bytes, runs, printing)
 }
 
 fn listing(megabytes: usize) -> Vec<u8> {
@@ -179,21 +148,21 @@ fn listing(megabytes: usize) -> Vec<u8> {
 fn bench_all(numbers: &[usize]) -> Answer<()> {
     let runs = numbers.first().copied().unwrap_or(9);
     let sizes = if numbers.len() > 1 { &numbers[1..] } else { &[1, 10, 100] };
-    for name in ["ORACLE", "TABLE2PSV"] {
-        if env::var_os(name).is_none() {
-            println!("{name} is not set: its ways are left out");
+    for (name, left_out) in [("the oracle", option_env!("ORACLE_LEFT_OUT")), ("table2psv", option_env!("TABLE2PSV_LEFT_OUT"))] {
+        if let Some(why) = left_out {
+            println!("{name} is left out: {why}");
         }
     }
     for &megabytes in sizes {
-        let folder = env::temp_dir();
-        let (file, with_path) = (folder.join("fernweeks-bench.txt"), folder.join("fernweeks-bench-path.txt"));
+        let name = |what: &str| env::temp_dir().join(format!("fernweeks-bench-{}-{what}.txt", process::id()));
+        let files = Files { listing: name("listing"), with_path: name("with-path") };
         let text = listing(megabytes);
-        fs::write(&file, &text)?;
-        fs::write(&with_path, [b"oix-full-snapshot-2024-03-01-0000.txt\n", &text[..]].concat())?;
+        fs::write(&files.listing, &text)?;
+        fs::write(&files.with_path, [b"oix-full-snapshot-2024-03-01-0000.txt\n", &text[..]].concat())?;
         drop(text);
-        let done = bench(&file, &with_path, megabytes, runs);
-        fs::remove_file(&file)?;
-        fs::remove_file(&with_path)?;
+        let done = bench(&files, megabytes, runs);
+        fs::remove_file(&files.listing)?;
+        fs::remove_file(&files.with_path)?;
         done?;
     }
     Ok(())
@@ -211,4 +180,9 @@ fn main() -> Answer<()> {
         }
         ref numbers => bench_all(&numbers.iter().map(|word| word.parse()).collect::<Result<Vec<_>, _>>()?),
     }
+}
+
+#[test]
+fn all_ways_agree() -> Answer<()> {
+    bench_all(&[1, 1])
 }
