@@ -1,0 +1,71 @@
+-- Bytes as a number, and back; shifts and remainders of it. Assumes nothing.
+use mathlib.Core.Path.{_≡_, refl, sym, ap, _∙_}
+use mathlib.Core.List.{List, [], _∷_, _++_}
+use Prim.Native.Nat.{ℕ, zero, suc, _+_, _*_, _/_, _%_, _^_, _≤_, _<_}
+use native.Mathlib.Omega.{arith}
+use mir.Syntax.{w8}
+use mir.Val.{Fits}
+use lib.ListN.{length, getD, take, drop}
+use lib.Pow.{pow-add, shr-shr, mod-pow-add, shr-lt}
+use native.Mathlib.Nat.{zero-div, zero-mod}
+use lib.Seq.{getD-drop}
+use Rattle.word.specs.Word.{bytes, number}
+
+pub length-bytes : (n v : ℕ) → length (bytes n v) ≡ suc n
+unfolding bytes
+length-bytes zero v = refl
+length-bytes (suc n) v = ap suc (length-bytes n (v / 256))
+
+-- the bytes of a number are read as that number
+pub number-back : (n v : ℕ) → number (bytes n v) ≡ v
+unfolding bytes number
+number-back zero v = omega arith
+number-back (suc n) v = rw (number-back n (v / 256)) (omega arith)
+
+-- each of the list is a byte
+abbrev pub Bytes : List ℕ → Type 0
+Bytes s = (i : ℕ) → Fits w8 (getD s i 0)
+
+next-byte : (k : ℕ) → 8 * suc k ≡ 8 * k + 8
+next-byte k = omega arith
+
+-- a number of that many bytes is in bytes
+pub bytes-fit : (n v : ℕ) → v < 2 ^ (8 * suc n) → Bytes (bytes n v)
+unfolding bytes
+bytes-fit zero v h zero = record { fits = h }
+bytes-fit zero v h (suc i) = record { fits = omega arith }
+bytes-fit (suc n) v h zero = record { fits = omega arith }
+bytes-fit (suc n) v h (suc i) = bytes-fit n (v / 256) (shr-lt (8 * suc n) 8 (rw next-byte at h)) i
+
+-- the k lowest bytes of a number are shifted out, and are its remainder
+pub number-drop : (k : ℕ) (s : List ℕ) → Bytes s → number s / 2 ^ (8 * k) ≡ number (drop k s)
+unfolding number
+number-drop zero s h = omega arith
+number-drop (suc k) [] h = zero-div (2 ^ (8 * suc k))
+number-drop (suc k) (b ∷ s) h =
+    let e : 8 * suc k ≡ 8 + 8 * k = omega arith in
+    let q : (b + 256 * number s) / 256 ≡ number s = omega (arith, h 0) in
+    rw e (sym (shr-shr (b + 256 * number s) 8 (8 * k)) ∙ rw q (number-drop k s (λ i. h (suc i))))
+
+pub number-take : (k : ℕ) (s : List ℕ) → Bytes s → number s % 2 ^ (8 * k) ≡ number (take k s)
+unfolding number
+number-take zero s h = omega arith
+number-take (suc k) [] h = zero-mod (2 ^ (8 * suc k))
+number-take (suc k) (b ∷ s) h =
+    let q : (b + 256 * number s) / 256 ≡ number s = omega (arith, h 0) in
+    rw next-byte (mod-pow-add (b + 256 * number s) (8 * k) 8 ∙ rw (q, number-take k s (λ i. h (suc i))) (omega (arith, h 0)))
+
+-- as many bytes bound it
+pub number-bound : (s : List ℕ) → Bytes s → number s < 2 ^ (8 * length s)
+unfolding number
+number-bound [] h = omega arith
+number-bound (b ∷ s) h = rw (next-byte, pow-add 2 (8 * length s) 8) (omega (arith, h 0, number-bound s (λ i. h (suc i))))
+
+pub drop-bytes : (n : ℕ) (s : List ℕ) → Bytes s → Bytes (drop n s)
+drop-bytes n s h i = rw (getD-drop n s i 0) (h (n + i))
+
+pub take-bytes : (n : ℕ) (s : List ℕ) → Bytes s → Bytes (take n s)
+take-bytes zero s h i = record { fits = omega arith }
+take-bytes (suc n) [] h i = record { fits = omega arith }
+take-bytes (suc n) (b ∷ s) h zero = h 0
+take-bytes (suc n) (b ∷ s) h (suc i) = take-bytes n s (λ j. h (suc j)) i
