@@ -1,13 +1,13 @@
 -- Bytes as a number, and back; shifts and remainders of it. Assumes nothing.
 use mathlib.Core.Path.{_≡_, refl, sym, ap, _∙_}
 use mathlib.Core.List.{List, [], _∷_, _++_}
-use Prim.Native.Nat.{ℕ, zero, suc, _+_, _*_, _/_, _%_, _^_, _≤_, _<_}
+use Prim.Native.Nat.{ℕ, zero, suc, _+_, _-_, _*_, _/_, _%_, _^_, _≤_, _<_}
 use native.Mathlib.Omega.{arith}
 use mir.Syntax.{w8}
 use mir.Val.{Fits}
-use lib.ListN.{length, getD, take, drop}
-use lib.Pow.{pow-add, shr-shr, mod-pow-add, shr-lt}
-use native.Mathlib.Nat.{zero-div, zero-mod}
+use lib.ListN.{length, getD, take, drop, replicate}
+use lib.Pow.{pow-add, shl-shr, shr-shr, mod-pow-add, shr-lt}
+use native.Mathlib.Nat.{zero-div, zero-mod, mul-mod-left}
 use lib.Seq.{getD-drop}
 use Rattle.word.specs.Word.{bytes, number}
 
@@ -55,6 +55,17 @@ number-take (suc k) (b ∷ s) h =
     let q : (b + 256 * number s) / 256 ≡ number s = omega (arith, h 0) in
     rw next-byte (mod-pow-add (b + 256 * number s) (8 * k) 8 ∙ rw (q, number-take k s (λ i. h (suc i))) (omega (arith, h 0)))
 
+-- k bytes of 0 come in below, and n are kept
+pub number-shift : (k n : ℕ) (s : List ℕ) → Bytes s → number s * 2 ^ (8 * k) % 2 ^ (8 * n + 8 * k) ≡ number (take n s) * 2 ^ (8 * k)
+number-shift k n s h =
+    mod-pow-add (number s * 2 ^ (8 * k)) (8 * n) (8 * k)
+    ∙ rw (shl-shr (number s) (8 * k), mul-mod-left (number s) (2 ^ (8 * k)), number-take n s h) (omega arith)
+
+pub number-zeros : (k : ℕ) (s : List ℕ) → number (replicate k 0 ++ s) ≡ number s * 2 ^ (8 * k)
+unfolding number
+number-zeros zero s = omega arith
+number-zeros (suc k) s = rw (next-byte, pow-add 2 (8 * k) 8, number-zeros k s) (omega arith)
+
 -- as many bytes bound it
 pub number-bound : (s : List ℕ) → Bytes s → number s < 2 ^ (8 * length s)
 unfolding number
@@ -69,3 +80,20 @@ take-bytes zero s h i = record { fits = omega arith }
 take-bytes (suc n) [] h i = record { fits = omega arith }
 take-bytes (suc n) (b ∷ s) h zero = h 0
 take-bytes (suc n) (b ∷ s) h (suc i) = take-bytes n s (λ j. h (suc j)) i
+
+-- bytes are those of the number that they are, with 0 for each that is not there
+zeros : (n : ℕ) → bytes n 0 ≡ replicate (suc n) 0
+unfolding bytes
+zeros zero = refl
+zeros (suc n) = ap (λ s. 0 ∷ s) (zeros n)
+
+pub bytes-back : (n : ℕ) (s : List ℕ) → Bytes s → length s ≤ suc n → bytes n (number s) ≡ s ++ replicate (suc n - length s) 0
+unfolding bytes number
+bytes-back n [] h l = let e : suc n - 0 ≡ suc n = omega arith in rw e (zeros n)
+bytes-back zero (b ∷ []) h l = let e : b + 256 * 0 ≡ b = omega arith in rw e
+bytes-back zero (b ∷ c ∷ s) h l = absurd (let f : ⊥ = omega arith in f)
+bytes-back (suc n) (b ∷ s) h l =
+    let low : (b + 256 * number s) % 256 ≡ b = omega (arith, h 0) in
+    let rest : (b + 256 * number s) / 256 ≡ number s = omega (arith, h 0) in
+    let e : suc (suc n) - suc (length s) ≡ suc n - length s = omega arith in
+    rw (low, rest, e, bytes-back n s (λ i. h (suc i)) (omega arith))
