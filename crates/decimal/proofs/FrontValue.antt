@@ -174,3 +174,13 @@ no-first w n e z = go (leading (littleEndian w)) (omega arith)
 pub some-first : (w n v : ℕ) → n ≡ length (leading (littleEndian w)) → v ≡ orZero (behind 0 (leading (littleEndian w))) → record { count = n; value = v } ≡ firstDigits w
 unfolding firstDigits
 some-first w n v e f = rw (e, f)
+
+-- of a text's bytes as a word
+zeros-behind : (k : ℕ) (s : List ℕ) → leading (s ++ replicate k 0) ≡ leading s
+unfolding leading
+zeros-behind zero [] = refl
+zeros-behind (suc k) [] = refl
+zeros-behind k (b ∷ s) = rw (zeros-behind k s)
+
+pub first-of : (s : List ℕ) → Bytes s → length s ≤ 8 → leading (littleEndian (number s)) ≡ leading s
+first-of s h l = ap leading (bytes-back 7 s h l) ∙ zeros-behind (8 - length s) s

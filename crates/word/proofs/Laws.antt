@@ -26,6 +26,15 @@ number-back (suc n) v = rw (number-back n (v / 256)) (omega arith)
 abbrev pub Bytes : List ℕ → Type 0
 Bytes s = (i : ℕ) → Fits w8 (getD s i 0)
 
+pub drop-bytes : (n : ℕ) (s : List ℕ) → Bytes s → Bytes (drop n s)
+drop-bytes n s h i = rw (getD-drop n s i 0) (h (n + i))
+
+pub take-bytes : (n : ℕ) (s : List ℕ) → Bytes s → Bytes (take n s)
+take-bytes zero s h i = record { fits = omega arith }
+take-bytes (suc n) [] h i = record { fits = omega arith }
+take-bytes (suc n) (b ∷ s) h zero = h 0
+take-bytes (suc n) (b ∷ s) h (suc i) = take-bytes n s (λ j. h (suc j)) i
+
 next-byte : (k : ℕ) → 8 * suc k ≡ 8 * k + 8
 next-byte k = omega arith
 
@@ -55,6 +64,17 @@ number-take (suc k) (b ∷ s) h =
     let q : (b + 256 * number s) / 256 ≡ number s = omega (arith, h 0) in
     rw next-byte (mod-pow-add (b + 256 * number s) (8 * k) 8 ∙ rw (q, number-take k s (λ i. h (suc i))) (omega (arith, h 0)))
 
+-- one of them
+pub byte-at : (k : ℕ) (s : List ℕ) → Bytes s → number s / 2 ^ (8 * k) % 256 ≡ getD s k 0
+unfolding number
+byte-at k s h =
+    let z : k + 0 ≡ k = omega arith in
+    rw (number-drop k s h) (lowest (drop k s) (drop-bytes k s h) ∙ getD-drop k s 0 0 ∙ ap (λ n. getD s n 0) z)
+  where
+    lowest : (l : List ℕ) → Bytes l → number l % 256 ≡ getD l 0 0
+    lowest [] b = refl
+    lowest (c ∷ l) b = omega (arith, b 0)
+
 -- k bytes of 0 come in below, and n are kept
 pub number-shift : (k n : ℕ) (s : List ℕ) → Bytes s → number s * 2 ^ (8 * k) % 2 ^ (8 * n + 8 * k) ≡ number (take n s) * 2 ^ (8 * k)
 number-shift k n s h =
@@ -71,15 +91,6 @@ pub number-bound : (s : List ℕ) → Bytes s → number s < 2 ^ (8 * length s)
 unfolding number
 number-bound [] h = omega arith
 number-bound (b ∷ s) h = rw (next-byte, pow-add 2 (8 * length s) 8) (omega (arith, h 0, number-bound s (λ i. h (suc i))))
-
-pub drop-bytes : (n : ℕ) (s : List ℕ) → Bytes s → Bytes (drop n s)
-drop-bytes n s h i = rw (getD-drop n s i 0) (h (n + i))
-
-pub take-bytes : (n : ℕ) (s : List ℕ) → Bytes s → Bytes (take n s)
-take-bytes zero s h i = record { fits = omega arith }
-take-bytes (suc n) [] h i = record { fits = omega arith }
-take-bytes (suc n) (b ∷ s) h zero = h 0
-take-bytes (suc n) (b ∷ s) h (suc i) = take-bytes n s (λ j. h (suc j)) i
 
 -- bytes are those of the number that they are, with 0 for each that is not there
 zeros : (n : ℕ) → bytes n 0 ≡ replicate (suc n) 0
