@@ -44,7 +44,7 @@ leading-behind v n (b ∷ d) t e =
     rw (f .0, leading-behind (v * 10 + (b - 48)) n d t (f .1))
 
 -- the digits at the front are a front of the text
-leading-front : (t : List ℕ) → take (length (leading t)) t ≡ leading t
+pub leading-front : (t : List ℕ) → take (length (leading t)) t ≡ leading t
 unfolding leading
 leading-front [] = refl
 leading-front (b ∷ t) = go (isDigit b) (leading-front t)
@@ -53,7 +53,7 @@ leading-front (b ∷ t) = go (isDigit b) (leading-front t)
     go true i = ap (λ l. b ∷ l) i
     go false i = refl
 
-leading-le : (t : List ℕ) → length (leading t) ≤ length t
+pub leading-le : (t : List ℕ) → length (leading t) ≤ length t
 unfolding leading
 leading-le [] = omega arith
 leading-le (b ∷ t) = go (isDigit b) (leading-le t)
@@ -62,7 +62,7 @@ leading-le (b ∷ t) = go (isDigit b) (leading-le t)
     go true i = omega arith
     go false i = omega arith
 
-leading-value : (v : ℕ) (t : List ℕ) → behind v (leading t) ≡ some (orZero (behind v (leading t)))
+pub leading-value : (v : ℕ) (t : List ℕ) → behind v (leading t) ≡ some (orZero (behind v (leading t)))
 unfolding leading behind
 leading-value v [] = refl
 leading-value v (b ∷ t) = go (isDigit b) refl (leading-value (v * 10 + (b - 48)) t)

@@ -11,6 +11,8 @@ use Rattle.decimal.specs.declared.U64Read.{U64Read}
 use Rattle.decimal.specs.declared.U64Read.the-variants.{Number as Number64, Nothing as Nothing64}
 use Rattle.decimal.specs.declared.DigitsRead.{DigitsRead}
 use Rattle.decimal.specs.declared.DigitsRead.the-variants.{Digits, Many}
+use Rattle.decimal.specs.declared.FirstDigits.{FirstDigits}
+use Rattle.word.specs.Word.{littleEndian}
 
 -- '0' to '9'
 abbrev pub isDigit : ℕ → Bool
@@ -67,3 +69,16 @@ orZero none = 0
 -- those from the place i on, where they are at most nine: what they make (0 where there are none), and the place behind them
 unfoldable pub digitsAt : List ℕ → ℕ → DigitsRead
 digitsAt s i = let d = leading (drop i s) in cond (leb (length d) 9) (Digits (orZero (behind 0 d)) (i + length d)) Many
+
+-- those of a word's eight bytes: how many, and what they make
+unfoldable pub firstDigits : ℕ → FirstDigits
+firstDigits w = let d = leading (littleEndian w) in record { count = length d; value = orZero (behind 0 d) }
+
+-- the highest bit for a byte that is no digit
+abbrev pub mark : ℕ → ℕ
+mark b = cond (isDigit b) 0 128
+
+-- the number that digits make behind v, each given as a number below 10
+unfoldable pub placed : ℕ → List ℕ → ℕ
+placed v [] = v
+placed v (d ∷ s) = placed (v * 10 + d) s

@@ -5,12 +5,9 @@ use Prim.Native.Nat.{ℕ, zero, suc, _+_, _*_, _/_}
 use native.Mathlib.Omega.{arith}
 use lib.ListN.{length, length-append}
 use lib.Seq.{take-at, drop-at}
-use Rattle.little.specs.Little.{bytes, littleEndian, bytesOf, number, wordsIn}
-
-pub length-bytes : (n v : ℕ) → length (bytes n v) ≡ suc n
-unfolding bytes
-length-bytes zero v = refl
-length-bytes (suc n) v = ap suc (length-bytes n (v / 256))
+use Rattle.word.specs.Word.{littleEndian}
+use Rattle.word.proofs.Laws.{length-bytes, number-back}
+use Rattle.little.specs.Little.{bytesOf, wordsIn}
 
 pub length-bytes-of : (w : List ℕ) → length (bytesOf w) ≡ 8 * length w
 unfolding bytesOf
@@ -21,12 +18,6 @@ pub bytes-append : (a b : List ℕ) → bytesOf (a ++ b) ≡ bytesOf a ++ bytesO
 unfolding bytesOf
 bytes-append [] b = refl
 bytes-append (v ∷ a) b = rw (bytes-append a b) (sym (simp append-assoc))
-
--- the bytes of a number are read as that number
-pub number-back : (n v : ℕ) → number (bytes n v) ≡ v
-unfolding bytes number
-number-back zero v = omega arith
-number-back (suc n) v = rw (number-back n (v / 256)) (omega arith)
 
 -- the bytes of words are read as those words, whatever stands behind them
 pub words-back : (w t : List ℕ) → wordsIn (length w) (bytesOf w ++ t) ≡ w

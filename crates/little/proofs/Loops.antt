@@ -11,8 +11,10 @@ use borrow.Author.Tests.{le-leb, lt-leb}
 use lib.Seq.{sets, sets-eq, take-suc, take-at, drop-at, drop-drop, take-suc-set, length-take-le, take-all}
 use Rattle.output.specs.Output.{front, answer}
 use Rattle.output.specs.declared.Put.the-variants.{Wrote, TooShort}
-use Rattle.little.specs.Little.{bytes, littleEndian, bytesOf, number, wordsIn}
-use Rattle.little.proofs.Laws.{length-bytes, length-bytes-of, bytes-append}
+use Rattle.word.specs.Word.{bytes, littleEndian, number}
+use Rattle.word.proofs.Laws.{length-bytes}
+use Rattle.little.specs.Little.{bytesOf, wordsIn}
+use Rattle.little.proofs.Laws.{length-bytes-of, bytes-append}
 
 -- the code divides once where the definition divides again and again
 eight : (v : ℕ)

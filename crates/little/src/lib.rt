@@ -5,7 +5,8 @@ ghost use Prim.Native.Nat.{_*_, _≤_};
 ghost use lib.ListN.{length};
 ghost use lib.Dec.{leb};
 ghost use Rattle.output.specs.Output.{front, answer};
-ghost use Rattle.little.specs.Little.{littleEndian, number, bytesOf, wordsIn};
+ghost use Rattle.word.specs.Word.{littleEndian, number};
+ghost use Rattle.little.specs.Little.{bytesOf, wordsIn};
 use output::Put;
 
 fn wide(b: u8) -> u64

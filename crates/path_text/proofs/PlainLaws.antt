@@ -1,27 +1,30 @@
 -- Laws of the quick ways: a plain number, and a lone byte at the end.
-use Prim.Native.Nat.{ℕ, suc, _+_, _-_, _*_, _^_, _≤_, _<_}
-use mathlib.Core.Path.{_≡_, refl, ap, _∙_}
+use Prim.Native.Nat.{ℕ, suc, _+_, _-_, _*_, _/_, _%_, _^_, _≤_, _<_}
+use native.Mathlib.Nat.{pow-le-pow-right}
+use mathlib.Core.Path.{_≡_, refl, sym, ap, _∙_}
 use mathlib.Core.Bool.{Bool, true, false, cond, not, _&&_, _||_}
 use mathlib.Core.List.{List, [], _∷_, _++_, map, flatten}
 use mathlib.Core.Option.{some, none}
 use native.Mathlib.Omega.{arith}
-use lib.ListN.{length, getD, drop, drop-of-length-le}
-use lib.Seq.{drop-cons}
+use lib.ListN.{length, getD, take, drop, length-take, drop-of-length-le, take-append-drop, List·getD-eq-default}
+use lib.Seq.{drop-cons, drop-drop, getD-drop, getD-take, take-take}
 use lib.Dec.{leb, ltb, eqb}
 use borrow.Author.Tests.{lt-ltb, le-ltb, leb-true, leb-false}
+use Rattle.word.specs.Word.{number, littleEndian}
+use Rattle.word.proofs.Laws.{Bytes, drop-bytes, take-bytes, byte-at}
 use Rattle.scan.specs.Lists.{onto, nonEmpty, splitBy}
 use Rattle.utf8.specs.Utf8.{chars}
 use Rattle.utf8.specs.Utf8.{charsFrom}
 use Rattle.utf8.proofs.CharLaws.{piece-pos, piece-le}
 use Rattle.utf8.proofs.CharsLaws.{chars-front}
 use Rattle.text.specs.White.{isSpace, tokens}
-use Rattle.decimal.specs.Decimal.{isDigit, behind, digits, unsigned, below, as32, readU32, digitsAt}
+use Rattle.decimal.specs.Decimal.{isDigit, behind, digits, unsigned, below, as32, readU32, leading, orZero, firstDigits}
 use Rattle.decimal.specs.declared.U32Read.the-variants.{Number, Nothing as NoNumber}
-use Rattle.decimal.specs.declared.DigitsRead.{DigitsRead}
-use Rattle.decimal.specs.declared.DigitsRead.the-variants.{Digits}
-use Rattle.decimal.proofs.Laws.{unsigned-digits}
+use Rattle.decimal.specs.declared.FirstDigits.{FirstDigits}
+use Rattle.decimal.proofs.Laws.{digits-bound, unsigned-digits}
 use Rattle.decimal.proofs.Reading.{start}
-use Rattle.decimal.proofs.Leading.{part, Run, digits-run, run-size, run-small, run-whole}
+use Rattle.decimal.proofs.Leading.{leading-front, leading-value}
+use Rattle.decimal.proofs.FrontValue.{first-of}
 use Rattle.path_text.specs.Path.{numbers}
 use Rattle.path_text.specs.Walk.{Takes, IsPlain, lone}
 use Rattle.path_text.specs.declared.Plain.the-variants.{Other as NoPlain}
@@ -72,19 +75,57 @@ pub lone-here : (s : List ℕ) (i : ℕ) → i < length s → length s - i ≤ 1
 unfolding lone
 lone-here s i h l = rw (drop-cons s i 0 h, drop-of-length-le s {i = suc i} (omega arith)) (no-digit (getD s i 0))
 
--- digits, and a space behind them
-module _ (s : List ℕ) (at : ℕ) (w : DigitsRead) (q : w ≡ digitsAt s at) (v e : ℕ) (f : w ≡ Digits v e) where
-  pub plain-found : at < e → e < length s → getD s e 0 ≡ 32 → Takes s at v (e + 1)
+-- digits, and a space behind them, in the eight bytes from a place on
+module _ (s : List ℕ) (at w : ℕ) (r : FirstDigits) (bytes : Bytes s) (q : w ≡ number (take 8 (drop at s))) (f : r ≡ firstDigits w) (few : r .count ≤ 7) (space : w / 2 ^ (8 * r .count) % 256 ≡ 32) where
+  front : List ℕ
+  front = leading (take 8 (drop at s))
+
+  inside : Bytes (take 8 (drop at s))
+  inside = take-bytes 8 (drop at s) (drop-bytes at s bytes)
+
+  read : leading (littleEndian w) ≡ front
+  unfolding front
+  read = rw q (first-of (take 8 (drop at s)) inside (simp length-take (omega arith)))
+
+  size : r .count ≡ length front
+  unfolding firstDigits
+  size = ap (λ x. x .count) f ∙ ap length read
+
+  made : behind 0 front ≡ some (r .value)
+  unfolding firstDigits front
+  made = leading-value 0 (take 8 (drop at s)) ∙ ap some (sym (ap (λ x. x .value) f ∙ ap (λ d. orZero (behind 0 d)) read))
+
+  behind-it : getD s (at + r .count) 0 ≡ 32
+  behind-it =
+      sym (getD-drop at s (r .count) 0) ∙ sym (getD-take 8 (drop at s) (r .count) 0 (omega arith))
+      ∙ sym (byte-at (r .count) (take 8 (drop at s)) inside) ∙ ap (λ x. x / 2 ^ (8 * r .count) % 256) (sym q) ∙ space
+
+  pub plain-inside : at + r .count < length s
+  plain-inside = go (leb (length s) (at + r .count)) refl
+    where
+      go : (z : Bool) → leb (length s) (at + r .count) ≡ z → at + r .count < length s
+      go true h = absurd (omega (arith, behind-it, List·getD-eq-default s 0 {n = at + r .count} (leb-true (length s) (at + r .count) h)))
+      go false h = leb-false (length s) (at + r .count) h
+
+  whole : drop at s ≡ front ++ (32 ∷ drop (at + r .count + 1) s)
+  unfolding front
+  whole =
+      let n = r .count in
+      let k : suc (at + n) ≡ at + n + 1 = omega arith in
+      let d : take n (drop at s) ≡ front = sym (take-take n 8 (drop at s) (omega arith)) ∙ ap (λ m. take m (take 8 (drop at s))) size ∙ leading-front (take 8 (drop at s)) in
+      sym (take-append-drop n (drop at s)) ∙ ap (λ l. l ++ drop n (drop at s)) d
+      ∙ ap (λ l. front ++ l) (drop-drop n at s ∙ rw (drop-cons s (at + n) 0 plain-inside, behind-it, k))
+
+  pub plain-found : (r .count ≡ 0 → ⊥) → Takes s at (r .value) (at + r .count + 1)
   unfolding numbers
-  plain-found n h g =
-      let r : Run s at e v = digits-run s at w q v e f in
-      let d : List ℕ = part s at e in
-      let k : suc e ≡ e + 1 = omega arith in
-      let some-digit : digits d ≡ some v = start d (λ z. omega (arith, run-size s at e v r)) ∙ r .value in
-      let whole : drop at s ≡ d ++ (32 ∷ drop (e + 1) s) = run-whole s at e v r ∙ ap (λ x. d ++ x) (rw (drop-cons s e 0 h, g, k)) in
-      let cut : tokens (drop at s) ≡ d ∷ tokens (drop (e + 1) s) = ap tokens whole ∙ parted d (drop (e + 1) s) ∙ ap (λ x. x ++ tokens (drop (e + 1) s)) (digits-token v d some-digit) in
-      let number : readU32 d ≡ Number v = rw (unsigned-digits v d some-digit, lt-ltb v (2 ^ 32) (omega (arith, run-small s at e v r 9 (r .few)))) in
-      (record { later = omega arith; inside = omega arith }, rw (cut, number))
+  plain-found some-count =
+      let v = r .value in
+      let rest = drop (at + r .count + 1) s in
+      let some-digit : digits front ≡ some v = start front (λ z. some-count (size ∙ z)) ∙ made in
+      let cut : tokens (drop at s) ≡ front ∷ tokens rest = ap tokens whole ∙ parted front rest ∙ ap (λ x. x ++ tokens rest) (digits-token v front some-digit) in
+      let low : 10 ^ length front ≤ 10 ^ 7 = pow-le-pow-right (omega arith) {j = 7} (omega (arith, size)) in
+      let number : readU32 front ≡ Number v = rw (unsigned-digits v front some-digit, lt-ltb v (2 ^ 32) (omega (arith, digits-bound v front some-digit))) in
+      (record { later = omega arith; inside = omega (arith, plain-inside) }, rw (cut, number))
 
 pub nothing-told : (s : List ℕ) (at : ℕ) → IsPlain s at NoPlain
 nothing-told s at = tt

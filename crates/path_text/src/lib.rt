@@ -7,7 +7,6 @@ ghost use lib.Dec.{leb};
 ghost use Rattle.output.specs.Output.{front};
 ghost use Rattle.path_text.specs.Path.{lastToken, letter, originOf, asnsOf, putAnswer};
 ghost use Rattle.path_text.specs.Walk.{lone, IsPlain, Finds};
-use decimal::DigitsRead;
 use decimal::U32Read;
 use elem::OptOrigin;
 use elem::Origin;
@@ -72,23 +71,23 @@ enum Plain {
     Other,
 }
 
-// The number from `at` on where it has at most nine digits and a space behind it, as nearly every one has: each byte is looked at once.
+// The number from `at` on where it has at most seven digits and a space behind it, as nearly every one has: the eight bytes are looked at
+// at once.
 fn plain_number(part: &[u8], at: usize) -> Plain
     ensures { λ r. ⌜ IsPlain (now (part .entry)) at r ⌝ }
 {
-    let DigitsRead::Digits(v, end) = decimal::digits_at(part, at) else {
-        return Plain::Other;
-    };
-    if end <= at {
-        return Plain::Other;
-    }
-    if part.len() <= end {
+    let w = word::word_at(part, at);
+    let d = decimal::first_digits(w);
+    if d.count == 0 {
         return Plain::Other;
     }
-    if part[end] != b' ' {
+    if 7 < d.count {
         return Plain::Other;
     }
-    Plain::Number(v, end + 1)
+    if (w >> (8 * d.count as u64)) % 256 != 32 {
+        return Plain::Other;
+    }
+    Plain::Number(d.value, at + d.count + 1)
 }
 
 // Is one byte left that is no digit? So the origin stands at most paths' end.

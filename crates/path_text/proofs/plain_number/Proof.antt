@@ -1,51 +1,60 @@
-use Rattle.path_text.proofs.PlainLaws.{plain-found, nothing-told}
+use Prim.Native.Nat.{_+_, _<_}
+use native.Mathlib.Omega.{arith}
+use lib.ListN.{length}
+use Rattle.path_text.proofs.PlainLaws.{plain-inside, plain-found}
 use borrow.Author.Needs.{needs}
 use Rattle.path_text.proofs.plain_number.Statement.{statement}
 use Rattle.path_text.proofs.plain_number.Tie as tie
 
-ruleset laws = (plain-found, nothing-told)
+word-at-requires : tie.Need-word-at-requires
+word-at-requires c κs = search needs
 
-digits-at-requires : tie.Need-digits-at-requires
-digits-at-requires c κs = search (laws, needs)
-
-enum-known-v : tie.Need-enum-known-v
-enum-known-v c = search (laws, needs)
-
-enum-told : tie.Need-enum-told
-enum-told c = search (laws, needs)
+first-digits-requires : tie.Need-first-digits-requires
+first-digits-requires c κs = search needs
 
 returns : tie.Need-returns
-returns c = search (laws, needs)
+returns c = search needs
 
 returns-2 : tie.Need-returns-2
-returns-2 c = search (laws, needs)
+returns-2 c = search needs
+
+mul-if3 : tie.Need-mul-if3
+mul-if3 c = search needs
+
+shr-if3 : tie.Need-shr-if3
+shr-if3 c = search needs
 
 returns-3 : tie.Need-returns-3
-returns-3 c = search (laws, needs)
+returns-3 c = search needs
 
-shared-slice-read-if3 : tie.Need-shared-slice-read-if3
-shared-slice-read-if3 c = search (laws, needs)
+add-t10 : tie.Need-add-t10
+add-t10 c =
+    let a = c .before .before .before .before .before .before .before .before .before .args in
+    let d = c .before .before .before .before .before .before .first-digits .result in
+    let inside : a .at + d .count < length (a .part .now) = search (plain-inside, c .before .before .before .before .before .before .before .before .shared-slice-known .given, needs) in
+    omega arith
+
+add-t11 : tie.Need-add-t11
+add-t11 c =
+    let a = c .before .before .before .before .before .before .before .before .before .args in
+    let d = c .before .before .before .before .before .before .first-digits .result in
+    let inside : a .at + d .count < length (a .part .now) = search (plain-inside, c .before .before .before .before .before .before .before .before .shared-slice-known .given, needs) in
+    omega arith
 
 returns-4 : tie.Need-returns-4
-returns-4 c = search (laws, needs)
-
-add-t7 : tie.Need-add-t7
-add-t7 c = search (laws, needs)
-
-returns-5 : tie.Need-returns-5
-returns-5 c = search (laws, needs)
+returns-4 c = search (plain-found, c .before .before .before .before .before .before .before .before .shared-slice-known .given, needs)
 
 pub plain-number-spec : {M : Type 1} → statement M
 plain-number-spec =
     tie.close
     (tie.spec
-    digits-at-requires
-    enum-known-v
-    enum-told
+    word-at-requires
+    first-digits-requires
     returns
     returns-2
+    mul-if3
+    shr-if3
     returns-3
-    shared-slice-read-if3
-    returns-4
-    add-t7
-    returns-5)
+    add-t10
+    add-t11
+    returns-4)

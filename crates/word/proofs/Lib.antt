@@ -1,0 +1,3 @@
+pub mod Laws
+pub mod Lanes
+pub mod At

@@ -1,0 +1,51 @@
+-- `word::word_at` meets its contract. Assumes nothing.
+use native.Mathlib.Omega.{arith}
+use Rattle.word.proofs.At.{past, few, late}
+use borrow.Author.Needs.{needs}
+use Rattle.word.proofs.word_at.Statement.{statement}
+use Rattle.word.proofs.word_at.Tie as tie
+
+returns : tie.Need-returns
+returns c = search (past, needs)
+
+few-at-requires : tie.Need-few-at-requires
+few-at-requires c κs = search needs
+
+returns-2 : tie.Need-returns-2
+returns-2 c = let a = c .before .before .before .before .args in few (a .s .now) (a .at) (c .few-at .result) (omega arith) (c .few-at .ensures)
+
+sub-smaller : tie.Need-sub-smaller
+sub-smaller c = search needs
+
+smaller-requires : tie.Need-smaller-requires
+smaller-requires c κs = search needs
+
+eight-at-requires : tie.Need-eight-at-requires
+eight-at-requires c κs = search needs
+
+sub-result : tie.Need-sub-result
+sub-result c = search needs
+
+mul-result : tie.Need-mul-result
+mul-result c = search needs
+
+shr-result : tie.Need-shr-result
+shr-result c = search needs
+
+returns-3 : tie.Need-returns-3
+returns-3 c = let a = c .before .before .before .before .before .args in late (a .s .now) (a .at) (c .before .smaller .result) (c .eight-at .result) (c .before .before .before .before .shared-slice-known .given) (omega arith) (omega arith) (c .before .smaller .ensures) (c .eight-at .ensures)
+
+pub word-at-spec : {M : Type 1} → statement M
+word-at-spec =
+    tie.close
+    (tie.spec
+    returns
+    few-at-requires
+    returns-2
+    sub-smaller
+    smaller-requires
+    eight-at-requires
+    sub-result
+    mul-result
+    shr-result
+    returns-3)
