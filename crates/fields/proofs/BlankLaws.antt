@@ -11,12 +11,13 @@ use lib.Dec.{eqb}
 use borrow.Author.Tests.{ne-eqb}
 use Rattle.scan.specs.Lists.{dropWhile}
 use Rattle.scan.proofs.ListLaws.{dropWhile-head}
-use Rattle.utf8.specs.Utf8.{all, charsFrom, chars}
+use Rattle.utf8.specs.Utf8.{within, all, charsFrom, chars}
 use Rattle.decimal.specs.Decimal.{unsigned, readU32}
 use Rattle.decimal.specs.declared.U32Read.{U32Read}
 use Rattle.decimal.specs.declared.U32Read.the-variants.{Nothing}
 use Rattle.text.specs.White.{isSpace, trimStart, dropWhileEnd, trimEnd, trim}
 use Rattle.text.proofs.TrimLaws.{trim-is, chars-skip, chars-trim-end}
+use Rattle.text.proofs.WhiteLaws.{front-visible, start-stop}
 use Rattle.fields.specs.Fronts.{isBlank}
 use Rattle.fields.proofs.SpaceLaws.{front-space, none-end, spaces-trim}
 
@@ -34,6 +35,11 @@ module _ (s : List ℕ) (i : ℕ) (e : trimStart s ≡ trimStart (drop i s)) whe
   pub number-none : length s ≤ i → Nothing ≡ readU32 (trim s)
   unfolding all unsigned
   number-none h = sym (ap readU32 (from ∙ ap trim (drop-of-length-le s h) ∙ spaces-trim [] refl))
+
+-- nothing but spaces, in a text of n bytes
+pub number-blank : (s : List ℕ) (n : ℕ) (r : Bool) → length s ≡ n → r ≡ all isBlank (take n (drop 0 s)) → r ≡ true → Nothing ≡ readU32 (trim s)
+unfolding all unsigned
+number-blank s n r h e f = sym (ap readU32 (spaces-trim s (ap (all isBlank) (sym (take-all n s (omega arith))) ∙ sym e ∙ f)))
 
 -- an element at the front that is kept is kept at the end
 kept : (p : List ℕ → Bool) (r : List (List ℕ)) (x : List ℕ) → p x ≡ false → 0 < length (dropWhile p (r ++ (x ∷ [])))
@@ -75,3 +81,8 @@ blank-start s x e = rw (e, trim-is s) (go (chars (trimStart s)) refl)
         let h : 0 < length (trimEnd (trimStart s)) = some-bytes (trimEnd (trimStart s)) (rw g (end-kept isSpace p m n)) in
         let k : 0 < length (trimStart s) = some-bytes (trimStart s) (rw f (omega arith)) in
         ne-eqb (length (trimStart s)) 0 (λ z. omega arith) ∙ sym (ne-eqb (length (trimEnd (trimStart s))) 0 (λ z. omega arith))
+
+pub blank-visible : (s : List ℕ) → 0 < length s → within 0x21 0x7E (getD s 0 0) ≡ true → false ≡ eqb (length (trim s)) 0
+blank-visible s h v =
+    sym (ne-eqb (length s) 0 (λ z. omega arith))
+    ∙ blank-start s s (sym (start-stop s 0 (front-visible s h v) refl))

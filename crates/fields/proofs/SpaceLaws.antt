@@ -19,20 +19,20 @@ use Rattle.text.proofs.WhiteLaws.{front-visible, back-white, back-visible, gap-
 use Rattle.text.proofs.WhiteLaws.{front-space as space-first}
 use Rattle.fields.specs.Fronts.{isBlank, Digits-around}
 
--- the test of 8 bytes: the first k of them are seen
+-- the test of n bytes: the first k of them are seen
 pub near-none : (s : List ℕ) (at : ℕ) → true ≡ all isBlank (take 0 (drop at s))
 unfolding all
 near-none s at = refl
 
-module _ (s : List ℕ) (at k : ℕ) (near : Bool) (e : near ≡ all isBlank (take k (drop at s))) where
-  pub near-more : at + 8 ≤ length s → k < 8 → (near && isBlank (getD s (at + k) 0)) ≡ all isBlank (take (k + 1) (drop at s))
+module _ (s : List ℕ) (at n k : ℕ) (near : Bool) (e : near ≡ all isBlank (take k (drop at s))) where
+  pub near-more : at + n ≤ length s → k < n → (near && isBlank (getD s (at + k) 0)) ≡ all isBlank (take (k + 1) (drop at s))
   unfolding all
   near-more h l =
       let m : k < length (drop at s) = rw length-drop (omega arith) in
       sym (rw (add-one, take-suc (drop at s) k 0 m, all-append, getD-drop, ← e) (rw and-true))
 
-  pub near-all : k ≤ 8 → 8 ≤ k → near ≡ all isBlank (take 8 (drop at s))
-  near-all h l = let z : k ≡ 8 = omega arith in rw z at e
+  pub near-all : k ≤ n → n ≤ k → near ≡ all isBlank (take n (drop at s))
+  near-all h l = let z : k ≡ n = omega arith in rw z at e
 
 -- from `at` on all are spaces if from i on all are
 module _ (s : List ℕ) (at i : ℕ) (e : all isBlank (drop at s) ≡ all isBlank (drop i s)) where

@@ -35,14 +35,14 @@ enum BitsRead {
     Nothing,
 }
 
-// Whether the 8 bytes from `at` on are spaces. There is no branch: the compiler makes one comparison of a word of it.
-fn spaces_near(s: &[u8], at: usize) -> bool
-    requires { ⌜ at + 8 ≤ length (now s) ⌝ }
-    ensures { λ r. ⌜ r ≡ all isBlank (take 8 (drop at (now (s .entry)))) ⌝ }
+// Whether the n bytes from `at` on are spaces. There is no branch, and callers name n: the compiler makes comparisons of words of it.
+fn spaces_near(s: &[u8], at: usize, n: usize) -> bool
+    requires { ⌜ at + n ≤ length (now s) ⌝ }
+    ensures { λ r. ⌜ r ≡ all isBlank (take n (drop at (now (s .entry)))) ⌝ }
 {
     let mut near = true;
     let mut k = 0;
-    while k < 8 {
+    while k < n {
         near = near & (s[at + k] == b' ');
         k += 1;
     }
@@ -70,7 +70,7 @@ fn all_spaces(s: &[u8], at: usize) -> bool
 {
     let mut i = at;
     while 8 <= s.len() - i {
-        if !spaces_near(s, i) {
+        if !spaces_near(s, i, 8) {
             return false;
         }
         i += 8;
@@ -171,10 +171,16 @@ fn bits_at(s: &[u8], at: usize) -> BitsRead
     BitsRead::Bits(n as u8, at + 3)
 }
 
-// Whether there is nothing but white space.
+// Whether there is nothing but white space. Most columns of prefixes begin with a visible byte, which one byte tells.
 pub fn is_blank(s: &[u8]) -> bool
     ensures { λ r. ⌜ r ≡ eqb (length (trimOf (now (s .entry)))) 0 ⌝ }
 {
+    if 0 < s.len() {
+        let b = s[0];
+        if (0x21 <= b) & (b <= 0x7E) {
+            return false;
+        }
+    }
     if all_spaces(s, 0) {
         return true;
     }
@@ -195,8 +201,8 @@ fn number_in(s: &[u8]) -> U32Read
     decimal::read_u32(text::trim(s))
 }
 
-// Most columns of numbers are blank: one pass over the spaces tells.
-pub fn read_number(s: &[u8]) -> U32Read
+// A number with spaces in front: one pass over them tells where it starts, or that the column is blank.
+fn number_behind_spaces(s: &[u8]) -> U32Read
     ensures { λ r. ⌜ r ≡ readU32 (trimOf (now (s .entry))) ⌝ }
 {
     let mut i = 0;
@@ -207,6 +213,18 @@ pub fn read_number(s: &[u8]) -> U32Read
         i += 1;
     }
     U32Read::Nothing
+}
+
+// Most columns of numbers are blank, and those of a listing's Metric and LocPrf have seven bytes: there one test tells.
+pub fn read_number(s: &[u8]) -> U32Read
+    ensures { λ r. ⌜ r ≡ readU32 (trimOf (now (s .entry))) ⌝ }
+{
+    if s.len() == 7 {
+        if spaces_near(s, 0, 7) {
+            return U32Read::Nothing;
+        }
+    }
+    number_behind_spaces(s)
 }
 
 pub fn read_address(s: &[u8]) -> AddressRead

@@ -7,9 +7,9 @@ use native.Mathlib.Omega.{arith}
 use lib.ListN.{length, length-append}
 use Rattle.scan.specs.Lists.{takeWhile, dropWhile}
 use Rattle.scan.proofs.ListLaws.{takeWhile-dropWhile}
-use Rattle.utf8.specs.Utf8.{chars, readable}
+use Rattle.utf8.specs.Utf8.{all, chars, readable}
 use Rattle.text.specs.White.{isSpace, skip, trimStart, dropWhileEnd, trimEnd, trim}
-use Rattle.utf8.proofs.ListLaws.{flatten-append}
+use Rattle.utf8.proofs.ListLaws.{all-parts, flatten-append}
 use Rattle.text.proofs.ListLaws.{drop-both}
 use Rattle.utf8.proofs.ReadableLaws.{readable-parts}
 use Rattle.utf8.proofs.CharsLaws.{chars-of-front, chars-of-rest, flatten-chars}
@@ -46,6 +46,10 @@ module _ (s : List ℕ) where
 
   pub trim-end-length : length (trimEnd s) ≤ length s
   trim-end-length = omega (arith, ap length trim-end-part, length-append (trimEnd s) (flatten (dropped isSpace (chars s))))
+
+  -- what holds of every byte holds of every byte that is left
+  pub trim-end-all : (p : ℕ → Bool) → all p s ≡ true → all p (trimEnd s) ≡ true
+  trim-end-all p h = all-parts p (trimEnd s) (flatten (dropped isSpace (chars s))) (ap (all p) trim-end-part ∙ h) .0
 
   -- both ends, the front first
   pub trim-is : trim s ≡ trimEnd (trimStart s)

@@ -1,20 +1,21 @@
 -- Laws of the columns of a line, and of what it says by them.
-use Prim.Native.Nat.{ℕ, _-_, _≤_, _<_}
+use Prim.Native.Nat.{ℕ, zero, suc, _+_, _-_, _≤_, _<_}
 use mathlib.Core.Path.{_≡_, refl, sym, ap, _∙_}
 use mathlib.Core.Bool.{Bool, true, false, cond, not, _&&_}
 use mathlib.Core.List.{List, [], _∷_, _++_, flatten}
 use native.Mathlib.Omega.{arith}
 use lib.ListN.{length, getD, take, drop, length-drop, drop-of-length-le}
 use lib.Seq.{take-all, take-nil, take-at, drop-append-le}
-use lib.Dec.{leb, eqb}
-use borrow.Author.Tests.{le-leb, lt-leb, leb-true, eqb-true, eqb-false, ne-eqb, not-true, not-false}
-use Rattle.utf8.specs.Utf8.{within, chars, readable}
+use lib.Dec.{leb, ltb, eqb}
+use borrow.Author.Tests.{le-leb, lt-leb, leb-true, ltb-true, eqb-true, eqb-false, ne-eqb, not-true, not-false}
+use Rattle.utf8.specs.Utf8.{isOne, within, all, chars, readable}
 use Rattle.utf8.specs.Edge.{isEdge, hasSlice}
 use Rattle.scan.specs.Ascii.{ascii}
 use Rattle.scan.specs.Search.{equal, startsWith}
 use Rattle.text.specs.White.{isSpace, trim, trimStart, trimEnd}
 use Rattle.utf8.proofs.TestLaws.{both}
-use Rattle.text.proofs.TrimLaws.{dropped, trim-end-part}
+use Rattle.utf8.proofs.EdgeLaws.{ascii-slice}
+use Rattle.text.proofs.TrimLaws.{dropped, trim-end-part, trim-end-all}
 use Rattle.text.proofs.WhiteLaws.{front-visible, start-stop}
 use Rattle.decimal.specs.Decimal.{readU32}
 use Rattle.decimal.specs.declared.U32Read.{U32Read}
@@ -26,12 +27,13 @@ use Rattle.network.specs.declared.AddressRead.{AddressRead}
 use Rattle.network.specs.declared.AddressRead.the-variants.{Address, Nothing as NoAddress}
 use Rattle.network.specs.declared.PrefixRead.{PrefixRead}
 use Rattle.network.specs.declared.PrefixRead.the-variants.{Prefix, Nothing as NoPrefix}
-use Rattle.columns.specs.Columns.{shiftLeft}
+use Rattle.columns.specs.Columns.{areRising, shiftLeft}
 use Rattle.columns.specs.declared.Columns.{Columns}
 use Rattle.columns.specs.declared.ColumnsRead.{ColumnsRead}
 use Rattle.columns.specs.declared.ColumnsRead.the-variants.{Found, Nothing as NoColumns}
 use Rattle.path_text.specs.Path.{originOf}
 use Rattle.text_dump_line.specs.Line.{slice, column, displayed, prefixAs, prefixText, pathStart, entryOf, pathOf, routeTo, routeOf, routeIf, orElse, anyRoute, wrappedOf, lineFrom, lineOf}
+use Rattle.text_dump_line.specs.Whole.{Whole}
 use Rattle.elem.specs.declared.OptOrigin.{OptOrigin}
 use Rattle.text_dump_line.specs.declared.PrefixText.{PrefixText}
 use Rattle.text_dump_line.specs.declared.PrefixText.the-variants.{Blank, Invalid, Valid}
@@ -41,27 +43,87 @@ use Rattle.text_dump_line.specs.declared.RouteRead.the-variants.{Route, 
 use Rattle.text_dump_line.specs.declared.Line.the-variants.{Unreadable, Passed, Wrapped, Route as RouteLine}
 
 -- slices
-module _ (t : List ℕ) (a b : ℕ) (r : Bool) (q : r ≡ hasSlice t a b) where
-  pub slice-order : r ≡ true → a ≤ b
-  slice-order f =
-      leb-true a b
-      (both (leb a b) (leb b (length t)) (both (leb a b && leb b (length t)) (isEdge t a) (both (leb a b && leb b (length t) && isEdge t a) (isEdge t b) (sym q ∙ f) .0) .0) .0)
+module _ (t : List ℕ) (a b : ℕ) where
+  module _ (e : hasSlice t a b ≡ true) where
+    ends : (leb a b ≡ true) × (leb b (length t) ≡ true)
+    ends = both (leb a b) (leb b (length t)) (both (leb a b && leb b (length t)) (isEdge t a) (both (leb a b && leb b (length t) && isEdge t a) (isEdge t b) e .0) .0)
 
-  pub slice-inside : r ≡ true → b ≤ length t
-  slice-inside f =
-      leb-true b (length t)
-      (both (leb a b) (leb b (length t)) (both (leb a b && leb b (length t)) (isEdge t a) (both (leb a b && leb b (length t) && isEdge t a) (isEdge t b) (sym q ∙ f) .0) .0) .1)
+    pub slice-order : a ≤ b
+    slice-order = leb-true a b (ends .0)
 
-  pub slice-start : r ≡ true → a ≤ length t
-  slice-start f = omega (arith, slice-order f, slice-inside f)
+    pub slice-inside : b ≤ length t
+    slice-inside = leb-true b (length t) (ends .1)
 
-  pub slice-there : r ≡ true → take (b - a) (drop a t) ≡ slice a b t
+    pub slice-there : take (b - a) (drop a t) ≡ slice a b t
+    unfolding slice
+    slice-there = rw e
+
+  pub slice-missing : hasSlice t a b ≡ false → [] ≡ slice a b t
   unfolding slice
-  slice-there f = rw (← q, f)
+  slice-missing e = rw e
 
-  pub slice-missing : r ≡ false → [] ≡ slice a b t
-  unfolding slice
-  slice-missing f = rw (← q, f)
+  -- as the test tells, and as the caller knows
+  pub slice-told : (r v : Bool) → r ≡ hasSlice t a b → r ≡ v → hasSlice t a b ≡ v
+  slice-told r v q f = sym q ∙ f
+
+  pub told-order : (r : Bool) → r ≡ hasSlice t a b → r ≡ true → a ≤ b
+  told-order r q f = slice-order (sym q ∙ f)
+
+  pub told-inside : (r : Bool) → r ≡ hasSlice t a b → r ≡ true → b ≤ length t
+  told-inside r q f = slice-inside (sym q ∙ f)
+
+  pub slice-known : (w : Bool) → (w ≡ true → hasSlice t a b ≡ true) → w ≡ true → hasSlice t a b ≡ true
+  slice-known w h f = h f
+
+-- the caller knows nothing
+pub not-known : (A : Type 0) → false ≡ true → A
+not-known A f = let z : _≡_ {A = ℕ} 0 1 = cc in absurd (omega arith)
+
+-- an ASCII line has a slice between any two of its places, so that of its columns only the order is tested
+rising-order : (c : Columns) → areRising c ≡ true → (c .«next_hop» < c .metric) × (c .metric < c .«local_pref») × (c .«local_pref» < c .weight) × (c .weight < c .path)
+rising-order c e =
+    let x = both (ltb (c .«next_hop») (c .metric) && ltb (c .metric) (c .«local_pref») && ltb (c .«local_pref») (c .weight)) (ltb (c .weight) (c .path)) e in
+    let y = both (ltb (c .«next_hop») (c .metric) && ltb (c .metric) (c .«local_pref»)) (ltb (c .«local_pref») (c .weight)) (x .0) in
+    let z = both (ltb (c .«next_hop») (c .metric)) (ltb (c .metric) (c .«local_pref»)) (y .0) in
+    (ltb-true (c .«next_hop») (c .metric) (z .0), ltb-true (c .metric) (c .«local_pref») (z .1), ltb-true (c .«local_pref») (c .weight) (y .1), ltb-true (c .weight) (c .path) (x .1))
+
+pub ascii-whole : (t : List ℕ) (c : Columns) (z r : Bool) → (z ≡ true → all isOne t ≡ true) → r ≡ areRising c
+    → (z && leb 3 (c .«next_hop») && r && leb (c .path) (length t)) ≡ true → Whole c t
+ascii-whole t c z r h q f = go (leb-true 3 (c .«next_hop») (f₃ .1)) (rising-order c (sym q ∙ f₂ .1)) (leb-true (c .path) (length t) (f₁ .1)) (h (f₃ .0))
+  where
+    f₁ : (z && leb 3 (c .«next_hop») && r ≡ true) × (leb (c .path) (length t) ≡ true)
+    f₁ = both (z && leb 3 (c .«next_hop») && r) (leb (c .path) (length t)) f
+
+    f₂ : (z && leb 3 (c .«next_hop») ≡ true) × (r ≡ true)
+    f₂ = both (z && leb 3 (c .«next_hop»)) r (f₁ .0)
+
+    f₃ : (z ≡ true) × (leb 3 (c .«next_hop») ≡ true)
+    f₃ = both z (leb 3 (c .«next_hop»)) (f₂ .0)
+
+    go : 3 ≤ c .«next_hop» → (c .«next_hop» < c .metric) × (c .metric < c .«local_pref») × (c .«local_pref» < c .weight) × (c .weight < c .path)
+        → c .path ≤ length t → all isOne t ≡ true → Whole c t
+    go first rise last h = record {
+      prefix-slice = ascii-slice t 3 (c .«next_hop») h (omega arith) (omega arith);
+      hop-slice = ascii-slice t (c .«next_hop») (c .metric) h (omega arith) (omega arith);
+      metric-slice = ascii-slice t (c .metric) (c .«local_pref») h (omega arith) (omega arith);
+      pref-slice = ascii-slice t (c .«local_pref») (c .weight) h (omega arith) (omega arith);
+      path-slice = ascii-slice t (c .path) (length t) h (omega arith) (omega arith);
+    }
+
+-- the columns of a whole line
+module _ (t : List ℕ) (c : Columns) (w : Bool) (h : w ≡ true → Whole c t) (f : w ≡ true) where
+  pub prefix-whole : hasSlice t 3 (c .«next_hop») ≡ true
+  prefix-whole = h f .prefix-slice
+
+  pub hop-whole : hasSlice t (c .«next_hop») (c .metric) ≡ true
+  hop-whole = h f .hop-slice
+
+  pub path-whole : hasSlice t (c .path) (length t) ≡ true
+  path-whole = h f .path-slice
+
+-- the end of an ASCII line is trimmed
+pub trimmed-ascii : (s t : List ℕ) (z : Bool) → z ≡ all isOne s → t ≡ trimEnd s → z ≡ true → all isOne t ≡ true
+trimmed-ascii s t z q e f = ap (all isOne) e ∙ trim-end-all s isOne (sym q ∙ f)
 
 -- the prefix text of a column
 no-text : (s : List ℕ) → length s ≡ 0 → Blank ≡ prefixText s
@@ -120,33 +182,59 @@ starts-otherwise t h n v = go t h n ∙ ap (λ x. startsWith x (ascii "Displayed
     go (b ∷ t) h n = simp (ne-eqb b 68 n)
 
 -- the path's part
-module _ (t : List ℕ) (path : ℕ) (r : Bool) (q : r ≡ hasSlice t path (length t)) where
-  pub path-there : r ≡ true → path ≡ pathStart path t
+module _ (t : List ℕ) (path : ℕ) where
+  pub path-there : hasSlice t path (length t) ≡ true → path ≡ pathStart path t
   unfolding pathStart
-  path-there f = rw (← q, f)
+  path-there e = rw e
 
-  pub path-missing : r ≡ false → length t ≡ pathStart path t
+  pub path-missing : hasSlice t path (length t) ≡ false → length t ≡ pathStart path t
   unfolding pathStart
-  path-missing f = rw (← q, f)
+  path-missing e = rw e
 
 start-inside : (t : List ℕ) (path : ℕ) → pathStart path t ≤ length t
 unfolding pathStart
 start-inside t path = go (hasSlice t path (length t)) refl
   where
     go : (z : Bool) → hasSlice t path (length t) ≡ z → cond z path (length t) ≤ length t
-    go true e = slice-order t path (length t) true (sym e) refl
+    go true e = slice-order t path (length t) e
     go false e = omega arith
 
 pub part-inside : (t : List ℕ) (path k : ℕ) → k ≡ pathStart path t → k ≤ length t
 part-inside t path k e = omega (arith, start-inside t path)
 
+-- the metric and the local preference, read in two turns: what is known after k of them, where the next number stands from a up to b
+unfoldable pub Numbers : Columns → List ℕ → ℕ → ℕ → ℕ → U32Read → U32Read → Type 0
+Numbers c t zero a b m l = (a ≡ c .metric) × (b ≡ c .«local_pref»)
+Numbers c t (suc zero) a b m l = (a ≡ c .«local_pref») × (b ≡ c .weight) × (l ≡ readU32 (column (c .metric) (c .«local_pref») t))
+Numbers c t (suc (suc k)) a b m l = (m ≡ readU32 (column (c .metric) (c .«local_pref») t)) × (l ≡ readU32 (column (c .«local_pref») (c .weight) t))
+
+module _ (t : List ℕ) (c : Columns) where
+  pub no-number : (m l : U32Read) → Numbers c t 0 (c .metric) (c .«local_pref») m l
+  unfolding Numbers
+  no-number m l = (refl, refl)
+
+  pub number-slice : (k a b : ℕ) (m l : U32Read) (w : Bool) → Numbers c t k a b m l → k < 2 → (w ≡ true → Whole c t) → w ≡ true → hasSlice t a b ≡ true
+  unfolding Numbers
+  number-slice zero a b m l w i h g f = rw (i .0, i .1) (g f .metric-slice)
+  number-slice (suc zero) a b m l w i h g f = rw (i .0, i .1) (g f .pref-slice)
+  number-slice (suc (suc k)) a b m l w i h g f = absurd (omega arith)
+
+  pub number-more : (k a b : ℕ) (m l n : U32Read) → Numbers c t k a b m l → k < 2 → n ≡ readU32 (column a b t) → Numbers c t (k + 1) b (c .weight) l n
+  unfolding Numbers
+  number-more zero a b m l n i h q = (i .1, refl, rw (← i .0, ← i .1) q)
+  number-more (suc zero) a b m l n i h q = (i .2, rw (← i .0, ← i .1) q)
+  number-more (suc (suc k)) a b m l n i h q = absurd (omega arith)
+
 -- what a route carries
-pub entry : (t : List ℕ) (c : Columns) (hop : IpAddr) (m l : U32Read) (k : ℕ) (o : OptOrigin) → m ≡ readU32 (column (c .metric) (c .«local_pref») t)
-    → l ≡ readU32 (column (c .«local_pref») (c .weight) t) → k ≡ pathStart (c .path) t → o ≡ originOf (take (length t - k) (drop k t))
-    → record { «next_hop» = hop; metric = m; «local_pref» = l; origin = o; «path_start» = k; «path_end» = length t } ≡ entryOf c hop t
-entry t c hop m l k o em el ek eo =
+pub entry : (t : List ℕ) (c : Columns) (hop : IpAddr) (j a b : ℕ) (m l : U32Read) (k : ℕ) (o : OptOrigin) → Numbers c t j a b m l → 2 ≤ j
+    → k ≡ pathStart (c .path) t → o ≡ originOf (take (length t - k) (drop k t))
+    → record { «next_hop» = hop; metric = m; «local_pref» = l; «path_start» = k; «path_end» = length t; origin = o } ≡ entryOf c hop t
+unfolding Numbers
+entry t c hop zero a b m l k o i h ek eo = absurd (omega arith)
+entry t c hop (suc zero) a b m l k o i h ek eo = absurd (omega arith)
+entry t c hop (suc (suc j)) a b m l k o i h ek eo =
     let p : o ≡ originOf (drop k t) = eo ∙ ap originOf (take-all (length t - k) (drop k t) (simp length-drop (omega arith))) in
-    rw (em, el, p, ek)
+    rw (i .0, i .1, p, ek)
 
 -- the bytes between two places, where they do not lie in the text in this order
 module _ (s : List ℕ) (a b : ℕ) where

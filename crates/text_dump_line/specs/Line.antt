@@ -59,9 +59,9 @@ entryOf c hop t =
       «next_hop» = hop;
       metric = readU32 (column (c .metric) (c .«local_pref») t);
       «local_pref» = readU32 (column (c .«local_pref») (c .weight) t);
-      origin = originOf (drop (pathStart (c .path) t) t);
       «path_start» = pathStart (c .path) t;
       «path_end» = length t;
+      origin = originOf (drop (pathStart (c .path) t) t);
     }
 
 -- the part of a line between the places that its route carries: of the line as it was read, before its end was trimmed

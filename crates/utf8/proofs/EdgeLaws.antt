@@ -8,11 +8,11 @@ use native.Mathlib.Omega.{arith}
 use lib.Dec.{leb, ltb, eqb}
 use lib.ListN.{length, getD, take, drop, take-append-drop, length-append, drop-of-length-le}
 use lib.Seq.{take-add, take-at, length-take-le, drop-cons, getD-append-seam}
-use borrow.Author.Tests.{lt-ltb, le-ltb, ne-eqb, eq-eqb, eqb-true, leb-true, ltb-true, not-true}
-use Rattle.utf8.specs.Utf8.{isTail, charsFrom, chars, isChar, all, readable, isScalar, encode, encodeAll}
+use borrow.Author.Tests.{lt-ltb, le-ltb, le-leb, lt-leb, ne-eqb, eq-eqb, eqb-true, leb-true, ltb-true, not-true}
+use Rattle.utf8.specs.Utf8.{isOne, isTail, charsFrom, chars, isChar, all, readable, isScalar, encode, encodeAll}
 use Rattle.utf8.specs.Edge.{isEdge, hasSlice}
-use Rattle.utf8.proofs.TestLaws.{both, either}
-use Rattle.utf8.proofs.ListLaws.{all-append, all-parts, flatten-append, map-take}
+use Rattle.utf8.proofs.TestLaws.{both, either, upto}
+use Rattle.utf8.proofs.ListLaws.{all-append, all-parts, all-at, flatten-append, map-take}
 use Rattle.utf8.proofs.CharLaws.{Begins, char-begins}
 use Rattle.utf8.proofs.CharsLaws.{chars-append, flatten-chars}
 use Rattle.utf8.proofs.EncodeLaws.{Encodes, scalar-encodes, encode-chars}
@@ -29,6 +29,18 @@ edge-end s at h = simp (le-ltb at (length s) h) (go (eqb at 0) refl)
     go : (t : Bool) → eqb at 0 ≡ t → eqb at (length s) ≡ (t || eqb at (length s) || false)
     go true e = eq-eqb at (length s) (omega (arith, eqb-true at 0 e))
     go false e = sym (or-false (eqb at (length s)))
+
+-- in an ASCII text every place is an edge, so that any slice exists
+ascii-edge : (s : List ℕ) (at : ℕ) → all isOne s ≡ true → at ≤ length s → isEdge s at ≡ true
+ascii-edge s at h l = upto (length s) at (λ g. sym (edge-end s at g) ∙ eq-eqb at (length s) (omega arith)) inside
+  where
+    inside : at < length s → isEdge s at ≡ true
+    inside g =
+        let low : getD s at 0 ≤ 0x7F = leb-true (getD s at 0) 0x7F (all-at isOne s at 0 h g) in
+        sym (edge-inside s at false g (sym (rw (lt-leb 0x80 (getD s at 0) (omega arith))))) ∙ or-true (eqb at 0)
+
+pub ascii-slice : (s : List ℕ) (a b : ℕ) → all isOne s ≡ true → a ≤ b → b ≤ length s → hasSlice s a b ≡ true
+ascii-slice s a b h l m = rw (le-leb a b l, le-leb b (length s) m, ascii-edge s a h (omega arith), ascii-edge s b h m)
 
 -- an edge lies in the text, and is its start, or what follows begins with no UTF8-tail
 pub edge-begins : (s : List ℕ) (at : ℕ) → isEdge s at ≡ true → (at ≤ length s) × ((at ≡ 0) ⊎ Begins (drop at s))

@@ -104,8 +104,8 @@ fn ascii_bytewise(s: &[u8]) -> bool
     ascii
 }
 
-// With 32 bytes at a time. Of the last 32 some may have been seen already: that is quicker than a loop over the rest.
-fn is_ascii(s: &[u8]) -> bool
+// Is it ASCII? With 32 bytes at a time. Of the last 32 some may have been seen already: that is quicker than a loop over the rest.
+pub fn is_ascii(s: &[u8]) -> bool
     ensures { λ r. ⌜ r ≡ all isOne (now (s .entry)) ⌝ }
 {
     let n = s.len();
@@ -123,7 +123,8 @@ fn is_ascii(s: &[u8]) -> bool
     ascii_near(s, last)
 }
 
-fn is_utf8(s: &[u8]) -> bool
+// Is it UTF-8? Character by character.
+pub fn is_utf8(s: &[u8]) -> bool
     ensures { λ r. ⌜ r ≡ readable (now (s .entry)) ⌝ }
 {
     let mut t = s;
@@ -141,7 +142,7 @@ fn is_utf8(s: &[u8]) -> bool
     true
 }
 
-// Is it UTF-8? Most lines are ASCII, which one quick scan tells.
+// The same, for a text that is mostly ASCII, which one quick scan tells.
 pub fn is_readable(s: &[u8]) -> bool
     ensures { λ r. ⌜ r ≡ readable (now (s .entry)) ⌝ }
 {

@@ -11,10 +11,10 @@ use Rattle.fields.proofs.spaces_near.Tie as tie
 ruleset laws = (near-none, near-more, near-all)
 
 abbrev Inv-loop : tie.InvT-loop
-Inv-loop s at near₀ k₀ near k = (k ≤ 8) × (near ≡ all isBlank (take k (drop at s)))
+Inv-loop s at n near₀ k₀ near k = (k ≤ n) × (near ≡ all isBlank (take k (drop at s)))
 
 abbrev μ-loop : tie.MeasureT-loop
-μ-loop s at near₀ k₀ near k = 8 - k
+μ-loop s at n near₀ k₀ near k = n - k
 
 loop-holds : tie.Need-loop-holds Inv-loop μ-loop
 loop-holds c = search (laws, needs)

@@ -1,10 +1,12 @@
-use borrow.Author.Needs.{needs}
-use Rattle.text_dump_line.proofs.LineLaws.{unreadable-line, route-line, wrapped-line, passed-line}
+use Rattle.text_dump_line.proofs.LineLaws.{trimmed-ascii, unreadable-line, route-line, wrapped-line, passed-line}
 use borrow.Author.Needs.{needs}
 use Rattle.text_dump_line.proofs.line_of.Statement.{statement}
 use Rattle.text_dump_line.proofs.line_of.Tie as tie
 
-ruleset laws = (unreadable-line, route-line, wrapped-line, passed-line)
+ruleset laws = (trimmed-ascii, unreadable-line, route-line, wrapped-line, passed-line)
+
+is-ascii-requires : tie.Need-is-ascii-requires
+is-ascii-requires c κs = search needs
 
 is-readable-requires : tie.Need-is-readable-requires
 is-readable-requires c κs = search needs
@@ -16,7 +18,7 @@ trim-end-requires : tie.Need-trim-end-requires
 trim-end-requires c κs = search needs
 
 any-route-requires : tie.Need-any-route-requires
-any-route-requires c κs = search needs
+any-route-requires c κs = search (laws, needs)
 
 enum-known-prefix : tie.Need-enum-known-prefix
 enum-known-prefix c = search needs
@@ -46,6 +48,7 @@ pub line-of-spec : {M : Type 1} → statement M
 line-of-spec =
     tie.close
     (tie.spec
+    is-ascii-requires
     is-readable-requires
     returns
     trim-end-requires

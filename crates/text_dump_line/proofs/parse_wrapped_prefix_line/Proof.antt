@@ -1,9 +1,9 @@
 use borrow.Author.Needs.{needs}
-use Rattle.text_dump_line.proofs.LineLaws.{too-long, wrapped}
+use Rattle.text_dump_line.proofs.LineLaws.{not-known, too-long, wrapped}
 use Rattle.text_dump_line.proofs.parse_wrapped_prefix_line.Statement.{statement}
 use Rattle.text_dump_line.proofs.parse_wrapped_prefix_line.Tie as tie
 
-ruleset laws = (too-long, wrapped)
+ruleset laws = (not-known, too-long, wrapped)
 
 returns : tie.Need-returns
 returns c = search (laws, needs)

@@ -1,9 +1,9 @@
 use borrow.Author.Needs.{needs}
-use Rattle.text_dump_line.proofs.LineLaws.{is-displayed, no-address, route}
+use Rattle.text_dump_line.proofs.LineLaws.{prefix-whole, hop-whole, is-displayed, no-address, route}
 use Rattle.text_dump_line.proofs.route_in.Statement.{statement}
 use Rattle.text_dump_line.proofs.route_in.Tie as tie
 
-ruleset laws = (is-displayed, no-address, route)
+ruleset laws = (prefix-whole, hop-whole, is-displayed, no-address, route)
 
 is-displayed-requires : tie.Need-is-displayed-requires
 is-displayed-requires c κs = search (laws, needs)
