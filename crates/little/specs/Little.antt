@@ -1,7 +1,7 @@
 -- Words of 64 bits as bytes, little-endian: the lowest byte first, eight to a word.
-use Prim.Native.Nat.{ℕ, zero, suc, _+_, _*_, _/_, _%_}
+use Prim.Native.Nat.{ℕ, zero, suc, _+_, _*_, _/_, _%_, _<_}
 use mathlib.Core.List.{List, [], _∷_, _++_}
-use lib.ListN.{take, drop}
+use lib.ListN.{getD, take, drop}
 
 -- v in n bytes and a last one, in which all stands that is left: with seven and the last, a byte for every v below 2 ^ 64
 unfoldable pub bytes : ℕ → ℕ → List ℕ
@@ -16,6 +16,10 @@ littleEndian v = bytes 7 v
 unfoldable pub bytesOf : List ℕ → List ℕ
 bytesOf [] = []
 bytesOf (v ∷ w) = littleEndian v ++ bytesOf w
+
+-- numbers that are bytes
+abbrev pub Bytes : List ℕ → Type 0
+Bytes s = (i : ℕ) → getD s i 0 < 256
 
 -- the number that bytes are
 unfoldable pub number : List ℕ → ℕ
