@@ -1,146 +1,222 @@
--- What words spell, by the tests that the code makes: one law for each way through it. Assumes nothing.
-use mathlib.Core.Path.{_≡_, refl, sym, ap, _∙_}
-use mathlib.Core.Bool.{Bool, true, false, not, _&&_}
+-- Whether words spell a state, and the state that they spell then: one law for each way through the code. Assumes nothing.
+use mathlib.Core.Path.{_≡_, refl, sym, ap, _∙_, subst}
+use mathlib.Core.Bool.{Bool, true, false, not, cond, _&&_, _||_}
 use mathlib.Core.List.{List}
-use mathlib.Core.Option.{Option, some}
-use Prim.Native.Nat.{ℕ, _≤_, _<_}
+use mathlib.Core.Option.{Option, some, none}
+use Prim.Native.Nat.{ℕ, _≤_}
+use native.Mathlib.Omega.{arith}
 use lib.ListN.{getD}
-use lib.Dec.{eqb}
-use lib.Ieee.{Float}
-use borrow.Author.Tests.{eq-eqb, ne-eqb, le-leb, lt-leb}
-use Rattle.network.specs.Address.{asAddress}
-use Rattle.network.specs.Prefix.{asPrefix}
+use lib.Dec.{T, eqb, leb}
+use lib.Ieee.{Float, binary64, nanBits, ofBits}
+use lib.Ieee.Bits.{nanBits-is}
+use borrow.Author.Tests.{leb-true, not-true, not-false, eq-eqb, ne-eqb, le-leb}
 use Rattle.network.specs.declared.IpAddr.{IpAddr}
 use Rattle.network.specs.declared.IpAddr.the-variants.{V4, V6}
-use Rattle.network.specs.declared.NetworkPrefix.{NetworkPrefix}
-use Rattle.network.specs.declared.AddressRead.{AddressRead}
-use Rattle.network.specs.declared.AddressRead.the-variants as address
-use Rattle.network.specs.declared.PrefixRead.{PrefixRead}
-use Rattle.network.specs.declared.PrefixRead.the-variants as prefix
-use Rattle.seconds.specs.Seconds.{timestampOfBits}
+use Rattle.seconds.specs.Seconds.{isTimestamp, timestampOfBits}
 use Rattle.seconds.specs.declared.TimestampRead.{TimestampRead}
 use Rattle.seconds.specs.declared.TimestampRead.the-variants as time
+use Rattle.seconds.proofs.Inverse.{no-nan}
 use Rattle.text_dump.specs.declared.Remembered.{Remembered}
 use Rattle.text_dump.specs.declared.Remembered.the-variants.{Nothing, Invalid, Valid}
-use Rattle.codec.specs.Spelling.{addressOf, prefixOf, rememberedOf, withRemembered, withTimestamp, stateOf, asRemembered, asState}
-use Rattle.codec.specs.declared.RememberedRead.{RememberedRead}
-use Rattle.codec.specs.declared.RememberedRead.the-variants as remembered
+use Rattle.text_dump.specs.declared.State.{State}
+use Rattle.codec.specs.Spelling.{isSome, addressOf, withLength, prefixOf, asValid, rememberedOf, withRemembered, withTimestamp, withPeer, stateOf, asState}
 use Rattle.codec.specs.declared.StateRead.the-variants as state
-use Rattle.codec.proofs.Answers.{some-address, no-address, some-prefix, no-prefix, some-remembered, no-remembered}
 
--- address_of
+and-left : (a b : Bool) → (a && b) ≡ true → a ≡ true
+and-left true b h = refl
+and-left false b h = h
+
+and-right : (a b : Bool) → (a && b) ≡ true → b ≡ true
+and-right true b h = h
+and-right false b h = let z : _≡_ {A = ℕ} 0 1 = cc in absurd (omega arith)
+
+-- a choice of two, and none else
+one-of : {A : Type 0} (a b : Bool) (x y : A) → (a || b) ≡ isSome (cond a (some x) (cond b (some y) none))
+one-of true b x y = refl
+one-of false true x y = refl
+one-of false false x y = refl
+
+-- an address
 module _ (k u l : ℕ) where
-  pub is-v6 : k ≡ 1 → addressOf k u l ≡ some (V6 u l)
+  abbrev v4 : Bool
+  v4 = eqb k 0 && eqb u 0 && leb l 4294967295
+
+  pub address-tested : (eqb k 1 || v4) ≡ isSome (addressOf k u l)
   unfolding addressOf
-  is-v6 h = simp (eq-eqb k 1 h)
+  address-tested = one-of (eqb k 1) v4 (V6 u l) (V4 l)
 
-  pub v6-told : k ≡ 1 → address.Address (V6 u l) ≡ asAddress (addressOf k u l)
-  v6-told h = ap asAddress (sym (is-v6 h))
+  pub v6-told : k ≡ 1 → addressOf k u l ≡ some (V6 u l)
+  unfolding addressOf
+  v6-told h = simp (eq-eqb k 1 h)
 
-  module _ (not-v6 : k ≡ 1 → ⊥) where
-    pub other-kind : (k ≡ 0 → ⊥) → address.Nothing ≡ asAddress (addressOf k u l)
+  module _ (other : k ≡ 1 → ⊥) (spelt : isSome (addressOf k u l) ≡ true) where
+    is-v4 : v4 ≡ true
+    is-v4 = ap (λ (b : Bool). b || v4) (sym (ne-eqb k 1 other)) ∙ address-tested ∙ spelt
+
+    pub v4-fits : l ≤ 4294967295
+    v4-fits = leb-true l 4294967295 (and-right (eqb k 0 && eqb u 0) (leb l 4294967295) is-v4)
+
+    pub v4-told : addressOf k u l ≡ some (V4 l)
     unfolding addressOf
-    other-kind h = simp (ne-eqb k 1 not-v6, ne-eqb k 0 h)
+    v4-told = rw (ne-eqb k 1 other, is-v4)
 
-    module _ (v4 : k ≡ 0) where
-      pub upper-used : (u ≡ 0 → ⊥) → address.Nothing ≡ asAddress (addressOf k u l)
-      unfolding addressOf
-      upper-used h = simp (ne-eqb k 1 not-v6, eq-eqb k 0 v4, ne-eqb u 0 h)
-
-      module _ (no-upper : u ≡ 0) where
-        pub too-large : 4294967295 < l → address.Nothing ≡ asAddress (addressOf k u l)
-        unfolding addressOf
-        too-large h = simp (ne-eqb k 1 not-v6, eq-eqb k 0 v4, eq-eqb u 0 no-upper, lt-leb l 4294967295 h)
-
-        pub v4-told : l ≤ 4294967295 → address.Address (V4 l) ≡ asAddress (addressOf k u l)
-        unfolding addressOf
-        v4-told h = simp (ne-eqb k 1 not-v6, eq-eqb k 0 v4, eq-eqb u 0 no-upper, le-leb l 4294967295 h)
-
--- prefix_of
-module _ (k u l n : ℕ) (r : AddressRead) (told : r ≡ asAddress (addressOf k u l)) where
-  pub prefix-no-address : r ≡ address.Nothing → prefix.Nothing ≡ asPrefix (prefixOf k u l n)
-  unfolding prefixOf
-  prefix-no-address e = rw (no-address (addressOf k u l) (sym e ∙ told))
-
-  module _ (a : IpAddr) (is : r ≡ address.Address a) where
-    pub prefix-too-long : 255 < n → prefix.Nothing ≡ asPrefix (prefixOf k u l n)
-    unfolding prefixOf
-    prefix-too-long h = rw (some-address (addressOf k u l) a (sym is ∙ told), lt-leb n 255 h)
-
-    pub prefix-told : n ≤ 255 → prefix.Prefix (record { addr = a; len = n }) ≡ asPrefix (prefixOf k u l n)
-    unfolding prefixOf
-    prefix-told h = rw (some-address (addressOf k u l) a (sym is ∙ told), le-leb n 255 h)
-
-is-false : (b : Bool) → not b ≡ true → b ≡ false
-is-false true e = sym e
-is-false false e = refl
-
-is-true : (b : Bool) → not b ≡ false → b ≡ true
-is-true true e = refl
-is-true false e = sym e
-
--- remembered_of
+-- the remembered prefix
 module _ (m k u l n : ℕ) where
-  module _ (two : m ≡ 2) (r : PrefixRead) (told : r ≡ asPrefix (prefixOf k u l n)) where
-    pub no-valid : r ≡ prefix.Nothing → remembered.Nothing ≡ asRemembered (rememberedOf m k u l n)
-    unfolding rememberedOf
-    no-valid e = rw (eq-eqb m 2 two, no-prefix (prefixOf k u l n) (sym e ∙ told))
+  abbrev unused : Bool
+  unused = eqb k 0 && eqb u 0 && eqb l 0 && eqb n 0
 
-    pub valid-told : (p : NetworkPrefix) → r ≡ prefix.Prefix p → remembered.Remembered (Valid p) ≡ asRemembered (rememberedOf m k u l n)
-    unfolding rememberedOf
-    valid-told p e = rw (eq-eqb m 2 two, some-prefix (prefixOf k u l n) p (sym e ∙ told))
+  in-length : (o : Option IpAddr) → (isSome o && leb n 255) ≡ isSome (asValid (withLength n o))
+  in-length (some a) = go (leb n 255)
+    where
+      go : (b : Bool) → b ≡ isSome (asValid (cond b (some (record { addr = a; len = n })) none))
+      go true = refl
+      go false = refl
+  in-length none = refl
 
-  module _ (not-two : m ≡ 2 → ⊥) (b : Bool) (empty : b ≡ (eqb k 0 && eqb u 0 && eqb l 0 && eqb n 0)) where
-    pub used : not b ≡ true → remembered.Nothing ≡ asRemembered (rememberedOf m k u l n)
-    unfolding rememberedOf
-    used e = rw (ne-eqb m 2 not-two, ← empty, is-false b e)
+  pub valid-tested : m ≡ 2 → (r : Bool) → r ≡ isSome (addressOf k u l) → (r && leb n 255) ≡ isSome (rememberedOf m k u l n)
+  unfolding rememberedOf prefixOf
+  valid-tested h r e = rw (eq-eqb m 2 h, e) (in-length (addressOf k u l))
 
-    module _ (e : not b ≡ false) where
-      pub nothing-told : m ≡ 0 → remembered.Remembered Nothing ≡ asRemembered (rememberedOf m k u l n)
+  nothing-else : (a b c : Bool) → (a && (b || c)) ≡ isSome (cond a (cond b (some Nothing) (cond c (some Invalid) none)) none)
+  nothing-else true b c = one-of b c Nothing Invalid
+  nothing-else false b c = refl
+
+  pub other-tested : (m ≡ 2 → ⊥) → (unused && (eqb m 0 || eqb m 1)) ≡ isSome (rememberedOf m k u l n)
+  unfolding rememberedOf
+  other-tested h = rw (ne-eqb m 2 h) (nothing-else unused (eqb m 0) (eqb m 1))
+
+  module _ (spelt : isSome (rememberedOf m k u l n) ≡ true) where
+    module _ (two : m ≡ 2) where
+      is-prefix : (isSome (addressOf k u l) && leb n 255) ≡ true
+      is-prefix = valid-tested two (isSome (addressOf k u l)) refl ∙ spelt
+
+      pub its-address : isSome (addressOf k u l) ≡ true
+      its-address = and-left (isSome (addressOf k u l)) (leb n 255) is-prefix
+
+      pub its-length : n ≤ 255
+      its-length = leb-true n 255 (and-right (isSome (addressOf k u l)) (leb n 255) is-prefix)
+
+      pub valid-told : (a : IpAddr) → addressOf k u l ≡ some a → rememberedOf m k u l n ≡ some (Valid (record { addr = a; len = n }))
+      unfolding rememberedOf prefixOf
+      valid-told a e = rw (eq-eqb m 2 two, e, le-leb n 255 its-length)
+
+    module _ (other : m ≡ 2 → ⊥) where
+      is-other : (unused && (eqb m 0 || eqb m 1)) ≡ true
+      is-other = other-tested other ∙ spelt
+
+      past : rememberedOf m k u l n ≡ cond (eqb m 0) (some Nothing) (cond (eqb m 1) (some Invalid) none)
       unfolding rememberedOf
-      nothing-told h = rw (ne-eqb m 2 not-two, ← empty, is-true b e, eq-eqb m 0 h)
+      past = rw (ne-eqb m 2 other, and-left unused (eqb m 0 || eqb m 1) is-other)
 
-      module _ (not-zero : m ≡ 0 → ⊥) where
-        pub invalid-told : m ≡ 1 → remembered.Remembered Invalid ≡ asRemembered (rememberedOf m k u l n)
-        unfolding rememberedOf
-        invalid-told h = rw (ne-eqb m 2 not-two, ← empty, is-true b e, ne-eqb m 0 not-zero, eq-eqb m 1 h)
+      pub invalid-told : m ≡ 1 → rememberedOf m k u l n ≡ some Invalid
+      invalid-told h = past ∙ rw h
 
-        pub none-told : (m ≡ 1 → ⊥) → remembered.Nothing ≡ asRemembered (rememberedOf m k u l n)
-        unfolding rememberedOf
-        none-told h = rw (ne-eqb m 2 not-two, ← empty, is-true b e, ne-eqb m 0 not-zero, ne-eqb m 1 h)
+      pub nothing-told : (m ≡ 1 → ⊥) → rememberedOf m k u l n ≡ some Nothing
+      nothing-told h =
+          past ∙ go (eqb m 0) (sym (and-right unused (eqb m 0 || eqb m 1) is-other) ∙ ap (λ (b : Bool). eqb m 0 || b) (ne-eqb m 1 h))
+        where
+          go : (b : Bool) → true ≡ (b || false) → cond b (some Nothing) (cond (eqb m 1) (some Invalid) none) ≡ some Nothing
+          go true e = refl
+          go false e = let z : _≡_ {A = ℕ} 0 1 = cc in absurd (omega arith)
 
--- state_of
+-- the timestamp
+module _ (bits : ℕ) where
+  abbrev float : Float
+  float = ofBits binary64 bits
+
+  timed : (b : Bool) → isTimestamp float ≡ b → timestampOfBits bits ≡ cond b (time.Timestamp float) time.Nothing
+  unfolding timestampOfBits
+  timed b e = rw e
+
+  module _ (r : TimestampRead) (is : r ≡ timestampOfBits bits) where
+    pub a-timestamp : (t : Float) → r ≡ time.Timestamp t → true ≡ isTimestamp float
+    a-timestamp t e = go (isTimestamp float) refl
+      where
+        go : (b : Bool) → isTimestamp float ≡ b → true ≡ b
+        go true f = refl
+        go false f = let z : _≡_ {A = ℕ} 0 1 = cc (timed false f) in absurd (omega arith)
+
+    pub no-timestamp : r ≡ time.Nothing → false ≡ isTimestamp float
+    no-timestamp e = go (isTimestamp float) refl
+      where
+        go : (b : Bool) → isTimestamp float ≡ b → false ≡ b
+        go true f = let z : _≡_ {A = ℕ} 0 1 = cc (timed true f) in absurd (omega arith)
+        go false f = refl
+
+-- a state
 module _ (w : List ℕ) where
   abbrev peer : Option IpAddr
   peer = addressOf (getD w 5 0) (getD w 6 0) (getD w 7 0)
 
+  abbrev at : Float
+  at = ofBits binary64 (getD w 9 0)
+
   abbrev memory : Option Remembered
   memory = rememberedOf (getD w 10 0) (getD w 11 0) (getD w 12 0) (getD w 13 0) (getD w 14 0)
 
-  module _ (r : AddressRead) (told : r ≡ asAddress peer) where
-    pub state-no-peer : r ≡ address.Nothing → state.Nothing ≡ asState (stateOf w)
-    unfolding stateOf
-    state-no-peer e = rw (no-address peer (sym e ∙ told))
+  abbrev small : Bool
+  small = leb (getD w 8 0) 4294967295
 
-    module _ (a : IpAddr) (is : r ≡ address.Address a) where
-      pub state-large-asn : 4294967295 < getD w 8 0 → state.Nothing ≡ asState (stateOf w)
+  by-memory : (a : IpAddr) (m : Option Remembered) → isSome m ≡ isSome (withRemembered w a at m)
+  by-memory a (some m) = refl
+  by-memory a none = refl
+
+  by-time : (a : IpAddr) (b : Bool) → (b && isSome memory) ≡ isSome (withTimestamp w a (cond b (time.Timestamp at) time.Nothing))
+  by-time a true = by-memory a memory
+  by-time a false = refl
+
+  by-asn : (a : IpAddr) (b : Bool) → (b && isTimestamp at && isSome memory) ≡ isSome (cond b (withTimestamp w a (timestampOfBits (getD w 9 0))) none)
+  unfolding timestampOfBits
+  by-asn a true = by-time a (isTimestamp at)
+  by-asn a false = refl
+
+  by-peer : (o : Option IpAddr) → (isSome o && small && isTimestamp at && isSome memory) ≡ isSome (withPeer w o)
+  by-peer (some a) = by-asn a small
+  by-peer none = refl
+
+  all-tested : (isSome peer && small && isTimestamp at && isSome memory) ≡ isSome (stateOf w)
+  unfolding stateOf
+  all-tested = by-peer peer
+
+  pub state-tested : (p t m : Bool) → p ≡ isSome peer → t ≡ isTimestamp at → m ≡ isSome memory → (p && small && t && m) ≡ isSome (stateOf w)
+  state-tested p t m ep et em = rw (ep, et, em) all-tested
+
+  module _ (r : Bool) (is : r ≡ isSome (stateOf w)) where
+    pub no-state-told : not r ≡ true → state.Nothing ≡ asState (stateOf w)
+    no-state-told h = go (stateOf w) (sym is ∙ not-true r h)
+      where
+        go : (o : Option State) → isSome o ≡ false → state.Nothing ≡ asState o
+        go (some σ) e = let z : _≡_ {A = ℕ} 0 1 = cc in absurd (omega arith)
+        go none e = refl
+
+    module _ (h : not r ≡ false) where
+      all : (isSome peer && small && isTimestamp at && isSome memory) ≡ true
+      all = all-tested ∙ sym is ∙ not-false r h
+
+      but-memory : (isSome peer && small && isTimestamp at) ≡ true
+      but-memory = and-left (isSome peer && small && isTimestamp at) (isSome memory) all
+
+      but-time : (isSome peer && small) ≡ true
+      but-time = and-left (isSome peer && small) (isTimestamp at) but-memory
+
+      pub its-peer : isSome peer ≡ true
+      its-peer = and-left (isSome peer) small but-time
+
+      is-small : small ≡ true
+      is-small = and-right (isSome peer) small but-time
+
+      pub its-asn : getD w 8 0 ≤ 4294967295
+      its-asn = leb-true (getD w 8 0) 4294967295 is-small
+
+      is-timed : isTimestamp at ≡ true
+      is-timed = and-right (isSome peer && small) (isTimestamp at) but-memory
+
+      pub its-float : T (not (nanBits binary64 (getD w 9 0)))
+      its-float = rw (nanBits-is binary64 (getD w 9 0)) (no-nan at (subst T (sym is-timed) tt))
+
+      pub its-memory : isSome memory ≡ true
+      its-memory = and-right (isSome peer && small && isTimestamp at) (isSome memory) all
+
+      pub state-told : (a : IpAddr) → peer ≡ some a → (m : Remembered) → memory ≡ some m → asState (withRemembered w a at (some m)) ≡ asState (stateOf w)
       unfolding stateOf
-      state-large-asn h = rw (some-address peer a (sym is ∙ told), lt-leb (getD w 8 0) 4294967295 h)
-
-      module _ (small : getD w 8 0 ≤ 4294967295) (s : TimestampRead) (timed : s ≡ timestampOfBits (getD w 9 0)) where
-        past : stateOf w ≡ withTimestamp w a s
-        unfolding stateOf
-        past = rw (some-address peer a (sym is ∙ told), le-leb (getD w 8 0) 4294967295 small, timed)
-
-        pub state-no-timestamp : s ≡ time.Nothing → state.Nothing ≡ asState (stateOf w)
-        state-no-timestamp e = ap asState (sym (past ∙ ap (withTimestamp w a) e))
-
-        module _ (t : Float) (at : s ≡ time.Timestamp t) (m : RememberedRead) (held : m ≡ asRemembered memory) where
-          to-memory : stateOf w ≡ withRemembered w a t memory
-          to-memory = past ∙ ap (withTimestamp w a) at
-
-          pub state-no-remembered : m ≡ remembered.Nothing → state.Nothing ≡ asState (stateOf w)
-          state-no-remembered e = ap asState (sym (to-memory ∙ ap (withRemembered w a t) (no-remembered memory (sym e ∙ held))))
-
-          pub state-told : (x : Remembered) → m ≡ remembered.Remembered x → asState (withRemembered w a t (some x)) ≡ asState (stateOf w)
-          state-told x e = ap asState (sym (to-memory ∙ ap (withRemembered w a t) (some-remembered memory x (sym e ∙ held))))
+      state-told a ea m em = rw (ea, is-small, timed (getD w 9 0) true is-timed, em)

@@ -1,15 +1,22 @@
--- The words that are written. Assumes nothing.
+-- The words that are written, and those that stay where a reading goes on. Assumes nothing.
 use mathlib.Core.Path.{_≡_, refl, sym, _∙_}
 use mathlib.Core.Bool.{Bool, true, false, not, cond, Bool·beq}
+use mathlib.Core.List.{[], _∷_}
 use Prim.Native.Nat.{ℕ, _*_}
 use native.Mathlib.Omega.{arith}
+use lib.ListN.{take, drop}
 use lib.Dec.{T}
 use lib.Ieee.{Float, nan, inf, fin, binary64, up, down, eq, toBits, isNan}
 use borrow.Author.Tests.{eq-eqb}
 use mir.Val.{boolByte}
 use Rattle.elem.specs.declared.Element.{Element}
+use Rattle.network.specs.declared.NetworkPrefix.{NetworkPrefix}
+use Rattle.plain_reader.specs.Cursor.{Cursor}
+use Rattle.text_dump.specs.State.{moved, turned}
+use Rattle.text_dump.specs.declared.Remembered.{Remembered}
 use Rattle.text_dump.specs.declared.State.{State}
-use Rattle.codec.specs.Words.{addressWords, rememberedWords, asnWords, originWords, numberWords, stateWith, stateWords, elementWith, elementWords}
+use Rattle.text_dump.proofs.StateLaws.{stored-plain}
+use Rattle.codec.specs.Words.{addressWords, rememberedWords, asnWords, originWords, numberWords, cursorWith, cursorWords, stateWith, stateWords, elementWith, elementWords}
 use Rattle.codec.specs.declared.AddressWords.{AddressWords}
 use Rattle.codec.specs.declared.RememberedWords.{RememberedWords}
 use Rattle.codec.specs.declared.OptWords.{OptWords}
@@ -43,9 +50,31 @@ pub state-written : (σ : State) (peer : AddressWords) (time : ℕ) (m : Remembe
 unfolding stateWords
 state-written σ peer time m p t r = rw (p, t, r)
 
+pub cursor-written : (m : Remembered) (r : RememberedWords) (position : ℕ) → r ≡ rememberedWords m → cursorWith r position ≡ cursorWords m position
+unfolding cursorWords
+cursor-written m r position e = rw e
+
 pub element-written : (e : Element) (time : ℕ) (peer prefix hop : AddressWords) (asn origin pref med : OptWords)
     → time ≡ toBits binary64 (e .timestamp) → peer ≡ addressWords (e .«peer_ip») → prefix ≡ addressWords (e .prefix .addr) → hop ≡ addressWords (e .«next_hop»)
     → asn ≡ asnWords (e .«origin_asn») → origin ≡ originWords (e .origin) → pref ≡ numberWords (e .«local_pref») → med ≡ numberWords (e .metric)
     → elementWith e (boolByte (e .announce)) time peer prefix hop asn origin pref med ≡ elementWords e
 unfolding elementWords
 element-written e time peer prefix hop asn origin pref med t p q h a o l m = rw (bool-word (e .announce), t, p, q, h, a, o, l, m)
+
+-- the same reading elsewhere: its first ten words stay, and the last six say where it stands
+pub moved-words : (σ : State) (c : Cursor NetworkPrefix) → take 10 (stateWords (moved σ c)) ≡ take 10 (stateWords σ)
+unfolding stateWords
+moved-words σ c = refl
+
+pub cursor-last : (σ : State) → drop 10 (stateWords σ) ≡ cursorWords (σ .remembered) (σ .position)
+unfolding stateWords cursorWords
+cursor-last σ = refl
+
+-- at the start of the next part: all words stay but the last, the position
+pub turned-words : (σ : State) → take 15 (stateWords (turned σ)) ≡ take 15 (stateWords σ)
+unfolding stateWords
+turned-words σ = rw (stored-plain (σ .remembered))
+
+pub position-last : (σ : State) → drop 15 (stateWords σ) ≡ σ .position ∷ []
+unfolding stateWords
+position-last σ = refl

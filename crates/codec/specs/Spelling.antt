@@ -1,6 +1,6 @@
 -- The state that sixteen words spell, field by field (docs/LAYOUT.md); none where a slot holds no value of its field.
 use Prim.Native.Nat.{ℕ, _≤_}
-use mathlib.Core.Bool.{cond, _&&_}
+use mathlib.Core.Bool.{Bool, true, false, cond, _&&_}
 use mathlib.Core.List.{List}
 use mathlib.Core.Option.{Option, some, none}
 use lib.ListN.{getD}
@@ -15,8 +15,6 @@ use Rattle.seconds.specs.declared.TimestampRead.the-variants as time
 use Rattle.text_dump.specs.declared.Remembered.{Remembered}
 use Rattle.text_dump.specs.declared.Remembered.the-variants.{Nothing, Invalid, Valid}
 use Rattle.text_dump.specs.declared.State.{State}
-use Rattle.codec.specs.declared.RememberedRead.{RememberedRead}
-use Rattle.codec.specs.declared.RememberedRead.the-variants as remembered
 use Rattle.codec.specs.declared.StateRead.{StateRead}
 use Rattle.codec.specs.declared.StateRead.the-variants as state
 
@@ -73,10 +71,10 @@ module _ (w : List ℕ) where
   unfoldable pub stateOf : Option State
   stateOf = withPeer (addressOf (getD w 5 0) (getD w 6 0) (getD w 7 0))
 
--- the answers
-abbrev pub asRemembered : Option Remembered → RememberedRead
-asRemembered (some m) = remembered.Remembered m
-asRemembered none = remembered.Nothing
+-- the answers: whether words spell one, and the state
+abbrev pub isSome : {A : Type 0} → Option A → Bool
+isSome (some x) = true
+isSome none = false
 
 abbrev pub asState : Option State → StateRead
 asState (some σ) = state.State σ

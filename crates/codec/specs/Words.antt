@@ -56,6 +56,13 @@ originWords (origin.Known EGP) = known 1
 originWords (origin.Known INCOMPLETE) = known 2
 originWords origin.Nothing = missing
 
+-- where a state stands: what it remembers, and its position
+abbrev pub cursorWith : RememberedWords → ℕ → List ℕ
+cursorWith m position = m .kind ∷ m .addr .kind ∷ m .addr .upper ∷ m .addr .lower ∷ m .len ∷ position ∷ []
+
+unfoldable pub cursorWords : Remembered → ℕ → List ℕ
+cursorWords m position = cursorWith (rememberedWords m) position
+
 -- a state, with the words of its peer's address, its timestamp and its remembered prefix
 abbrev pub stateWith : State → AddressWords → ℕ → RememberedWords → List ℕ
 stateWith σ peer time m =
@@ -63,8 +70,7 @@ stateWith σ peer time m =
     ∷ peer .kind ∷ peer .upper ∷ peer .lower
     ∷ σ .«peer_asn» .0
     ∷ time
-    ∷ m .kind ∷ m .addr .kind ∷ m .addr .upper ∷ m .addr .lower ∷ m .len
-    ∷ σ .position ∷ []
+    ∷ cursorWith m (σ .position)
 
 unfoldable pub stateWords : State → List ℕ
 stateWords σ = stateWith σ (addressWords (σ .«peer_ip»)) (toBits binary64 (σ .timestamp)) (rememberedWords (σ .remembered))

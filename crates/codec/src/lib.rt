@@ -1,23 +1,20 @@
 // The reading state and the element as words of 64 bits, a slot for each field (docs/LAYOUT.md).
 ghost use mathlib.Core.Path.{_≡_};
-ghost use mathlib.Core.Bool.{_&&_};
-ghost use lib.Dec.{eqb};
-ghost use lib.Ieee.{binary64, toBits};
-ghost use Rattle.network.specs.Address.{asAddress};
-ghost use Rattle.network.specs.Prefix.{asPrefix};
-ghost use Rattle.codec.specs.Words.{addressWords, rememberedWords, asnWords, originWords, numberWords, stateWords, elementWords};
-ghost use Rattle.codec.specs.Spelling.{addressOf, prefixOf, rememberedOf, asRemembered, stateOf, asState};
+ghost use mathlib.Core.Bool.{true};
+ghost use mathlib.Core.Option.{some};
+ghost use lib.Ieee.{binary64, toBits, ofBits};
+ghost use Rattle.seconds.specs.Seconds.{isTimestamp};
+ghost use Rattle.codec.specs.Words.{addressWords, rememberedWords, asnWords, originWords, numberWords, stateWords, cursorWords, elementWords};
+ghost use Rattle.codec.specs.Spelling.{isSome, addressOf, rememberedOf, stateOf, asState};
 use columns::Columns;
 use decimal::U32Read;
 use elem::Element;
 use elem::OptAsn;
 use elem::OptOrigin;
 use elem::Origin;
-use network::AddressRead;
 use network::Asn;
 use network::IpAddr;
 use network::NetworkPrefix;
-use network::PrefixRead;
 use seconds::TimestampRead;
 use text_dump::Remembered;
 use text_dump::State;
@@ -38,11 +35,6 @@ struct RememberedWords {
 struct OptWords {
     known: u64,
     value: u64,
-}
-
-enum RememberedRead {
-    Remembered(Remembered),
-    Nothing,
 }
 
 pub enum StateRead {
@@ -175,6 +167,22 @@ pub fn state_words(s: State) -> [u64; 16]
     ]
 }
 
+// The last six of a state's words: all that changes while a table is read.
+pub fn cursor_words(remembered: Remembered, position: usize) -> [u64; 6]
+    ensures { λ r. ⌜ r ≡ cursorWords remembered position ⌝ }
+{
+    let words = remembered_words(remembered);
+    let addr = words.addr;
+    [
+        words.kind,
+        addr.kind,
+        addr.upper,
+        addr.lower,
+        words.len,
+        position as u64,
+    ]
+}
+
 pub fn element_words(e: Element) -> [u64; 22]
     ensures { λ r. ⌜ r ≡ elementWords e ⌝ }
 {
@@ -222,84 +230,76 @@ pub fn element_words(e: Element) -> [u64; 22]
     ]
 }
 
-fn address_of(kind: u64, upper: u64, lower: u64) -> AddressRead
-    ensures { λ r. ⌜ r ≡ asAddress (addressOf kind upper lower) ⌝ }
+fn is_address(kind: u64, upper: u64, lower: u64) -> bool
+    ensures { λ r. ⌜ r ≡ isSome (addressOf kind upper lower) ⌝ }
 {
-    if kind == 1 {
-        return AddressRead::Address(IpAddr::V6(upper, lower));
-    }
-    if kind != 0 {
-        return AddressRead::Nothing;
-    }
-    if upper != 0 {
-        return AddressRead::Nothing;
-    }
-    if 0xffff_ffff < lower {
-        return AddressRead::Nothing;
-    }
-    AddressRead::Address(IpAddr::V4(lower as u32))
+    (kind == 1) | ((kind == 0) & (upper == 0) & (lower <= 0xffff_ffff))
 }
 
-fn prefix_of(kind: u64, upper: u64, lower: u64, len: u64) -> PrefixRead
-    ensures { λ r. ⌜ r ≡ asPrefix (prefixOf kind upper lower len) ⌝ }
+fn are_timestamp_bits(bits: u64) -> bool
+    ensures { λ r. ⌜ r ≡ isTimestamp (ofBits binary64 bits) ⌝ }
 {
-    let AddressRead::Address(addr) = address_of(kind, upper, lower) else {
-        return PrefixRead::Nothing;
-    };
-    if 255 < len {
-        return PrefixRead::Nothing;
+    match seconds::timestamp_of_bits(bits) {
+        TimestampRead::Timestamp(_) => true,
+        TimestampRead::Nothing => false,
     }
-    PrefixRead::Prefix(NetworkPrefix {
-        addr,
-        len: len as u8,
-    })
 }
 
-fn are_unused(kind: u64, upper: u64, lower: u64, len: u64) -> bool
-    ensures { λ r. ⌜ r ≡ (eqb kind 0 && eqb upper 0 && eqb lower 0 && eqb len 0) ⌝ }
-{
-    (kind == 0) & (upper == 0) & (lower == 0) & (len == 0)
-}
-
-fn remembered_of(remembered: u64, kind: u64, upper: u64, lower: u64, len: u64) -> RememberedRead
-    ensures { λ r. ⌜ r ≡ asRemembered (rememberedOf remembered kind upper lower len) ⌝ }
+fn is_remembered(remembered: u64, kind: u64, upper: u64, lower: u64, len: u64) -> bool
+    ensures { λ r. ⌜ r ≡ isSome (rememberedOf remembered kind upper lower len) ⌝ }
 {
     if remembered == 2 {
-        let PrefixRead::Prefix(p) = prefix_of(kind, upper, lower, len) else {
-            return RememberedRead::Nothing;
-        };
-        return RememberedRead::Remembered(Remembered::Valid(p));
+        return is_address(kind, upper, lower) & (len <= 255);
     }
-    if !are_unused(kind, upper, lower, len) {
-        return RememberedRead::Nothing;
+    (kind == 0) & (upper == 0) & (lower == 0) & (len == 0) & ((remembered == 0) | (remembered == 1))
+}
+
+// Whether the words spell a state. The conversions below test nothing again.
+pub fn is_state(w: &[u64; 16]) -> bool
+    ensures { λ r. ⌜ r ≡ isSome (stateOf (now (w .entry))) ⌝ }
+{
+    is_address(w[5], w[6], w[7])
+        & (w[8] <= 0xffff_ffff)
+        & are_timestamp_bits(w[9])
+        & is_remembered(w[10], w[11], w[12], w[13], w[14])
+}
+
+fn address_of(kind: u64, upper: u64, lower: u64) -> IpAddr
+    requires { ⌜ isSome (addressOf kind upper lower) ≡ true ⌝ }
+    ensures { λ r. ⌜ addressOf kind upper lower ≡ some r ⌝ }
+{
+    if kind == 1 {
+        return IpAddr::V6(upper, lower);
     }
-    if remembered == 0 {
-        return RememberedRead::Remembered(Remembered::Nothing);
+    IpAddr::V4(lower as u32)
+}
+
+fn remembered_of(remembered: u64, kind: u64, upper: u64, lower: u64, len: u64) -> Remembered
+    requires { ⌜ isSome (rememberedOf remembered kind upper lower len) ≡ true ⌝ }
+    ensures { λ r. ⌜ rememberedOf remembered kind upper lower len ≡ some r ⌝ }
+{
+    if remembered == 2 {
+        let addr = address_of(kind, upper, lower);
+        return Remembered::Valid(NetworkPrefix {
+            addr,
+            len: len as u8,
+        });
     }
     if remembered == 1 {
-        return RememberedRead::Remembered(Remembered::Invalid);
+        return Remembered::Invalid;
     }
-    RememberedRead::Nothing
+    Remembered::Nothing
 }
 
 // The state that the words spell; Nothing where they spell none.
 pub fn state_of(w: [u64; 16]) -> StateRead
     ensures { λ r. ⌜ r ≡ asState (stateOf w) ⌝ }
 {
-    let AddressRead::Address(peer_ip) = address_of(w[5], w[6], w[7]) else {
-        return StateRead::Nothing;
-    };
-    let asn = w[8];
-    if 0xffff_ffff < asn {
+    if !is_state(&w) {
         return StateRead::Nothing;
     }
-    let TimestampRead::Timestamp(timestamp) = seconds::timestamp_of_bits(w[9]) else {
-        return StateRead::Nothing;
-    };
-    let RememberedRead::Remembered(remembered) = remembered_of(w[10], w[11], w[12], w[13], w[14])
-    else {
-        return StateRead::Nothing;
-    };
+    let peer_ip = address_of(w[5], w[6], w[7]);
+    let remembered = remembered_of(w[10], w[11], w[12], w[13], w[14]);
     let columns = Columns {
         next_hop: w[0] as usize,
         metric: w[1] as usize,
@@ -310,8 +310,8 @@ pub fn state_of(w: [u64; 16]) -> StateRead
     StateRead::State(State {
         columns,
         peer_ip,
-        peer_asn: Asn(asn as u32),
-        timestamp,
+        peer_asn: Asn(w[8] as u32),
+        timestamp: f64::from_bits(w[9]),
         remembered,
         position: w[15] as usize,
     })

@@ -1,13 +1,15 @@
 -- What each exported call leaves, by the tests and answers on the way: one law for each way through it. Assumes nothing.
 use mathlib.Core.Path.{_≡_, refl, sym, ap, _∙_}
-use mathlib.Core.Bool.{Bool, true, false, cond}
-use mathlib.Core.List.{List}
+use mathlib.Core.Bool.{Bool, true, false, not, cond}
+use mathlib.Core.List.{List, [], _∷_, _++_}
 use mathlib.Core.Option.{Option, some, none}
-use Prim.Native.Nat.{ℕ, _≤_, _<_}
+use Prim.Native.Nat.{ℕ, _-_, _≤_, _<_}
 use native.Mathlib.Omega.{arith}
-use lib.ListN.{length, take}
+use lib.ListN.{length, getD, take, drop}
 use lib.Ieee.{Float}
-use borrow.Author.Tests.{lt-ltb, le-ltb}
+use borrow.Author.Tests.{not-true, not-false, lt-ltb, le-ltb}
+use mir.Syntax.{w8}
+use mir.Val.{Fits}
 use Rattle.output.specs.Output.{front}
 use Rattle.text_dump_header.specs.Detect.{detect}
 use Rattle.text_dump_header.specs.Header.{header}
@@ -16,7 +18,7 @@ use Rattle.text_dump_header.specs.declared.TextDumpHeader.{TextDumpHeader}
 use Rattle.text_dump_header.specs.declared.HeaderRead.the-variants as head
 use Rattle.elem.specs.declared.Element.{Element}
 use Rattle.plain_reader.specs.Calls.{element}
-use Rattle.text_dump.specs.State.{turned}
+use Rattle.text_dump.specs.State.{cursor, moved}
 use Rattle.text_dump.specs.Open.{openOf}
 use Rattle.text_dump.specs.Open as Open
 use Rattle.text_dump.specs.Next.{Step, next, told, lent, Answers}
@@ -25,11 +27,15 @@ use Rattle.text_dump.specs.declared.Opened.{Opened}
 use Rattle.text_dump.specs.declared.Opened.the-variants.{Table, NoTimestamp, Unreadable, NoColumns}
 use Rattle.text_dump.specs.declared.Next.{Next}
 use Rattle.text_dump.specs.declared.Next.the-variants as by
-use Rattle.codec.specs.Spelling.{asState}
+use Rattle.text_dump.proofs.NextLaws.{next-moved}
+use Rattle.little.specs.Little.{bytesOf}
+use Rattle.codec.specs.Words.{cursorWords}
+use Rattle.codec.specs.Spelling.{isSome, asState}
 use Rattle.codec.specs.declared.StateRead.{StateRead}
 use Rattle.codec.specs.declared.StateRead.the-variants as read
 use Rattle.collector.specs.Bytes.{stateBytes, elementBytes, stateIn}
 use Rattle.collector.specs.Exports.{lineAtFault, opensIn, openLeft, turnsIn, turnLeft, Left, left, answersIn, nextIn, nextLeft}
+use Rattle.collector.proofs.Kept.{moved-bytes, turned-bytes}
 
 some-state : (o : Option State) (σ : State) → read.State σ ≡ asState o → o ≡ some σ
 some-state (some τ) σ h = cc
@@ -84,16 +90,25 @@ module _ (s : List ℕ) where
   unfolding turnLeft
   turn-short h = rw (lt-ltb (length s) 128 h)
 
-  module _ (room : 128 ≤ length s) (r : StateRead) (is : r ≡ asState (stateIn s)) where
+  module _ (room : 128 ≤ length s) (r : Bool) (is : r ≡ isSome (stateIn s)) where
     past-turn : turnsIn s (stateIn s) ≡ turnLeft s
     unfolding turnLeft
     past-turn = rw (le-ltb (length s) 128 room)
 
-    pub turn-no-state : r ≡ read.Nothing → (5, s) ≡ turnLeft s
-    turn-no-state e = sym (ap (turnsIn s) (no-state (stateIn s) (sym e ∙ is))) ∙ past-turn
+    pub turn-no-state : not r ≡ true → (5, s) ≡ turnLeft s
+    turn-no-state h = go (stateIn s) (sym is ∙ not-true r h) ∙ past-turn
+      where
+        go : (o : Option State) → isSome o ≡ false → (5, s) ≡ turnsIn s o
+        go (some σ) e = let z : _≡_ {A = ℕ} 0 1 = cc in absurd (omega arith)
+        go none e = refl
 
-    pub turn-state : (σ τ : State) (new : List ℕ) → r ≡ read.State σ → τ ≡ turned σ → new ≡ front (stateBytes τ) s → (0, new) ≡ turnLeft s
-    turn-state σ τ new e f g = rw (g, f) (sym (ap (turnsIn s) (some-state (stateIn s) σ (sym e ∙ is))) ∙ past-turn)
+    pub turn-state : not r ≡ false → ((i : ℕ) → Fits w8 (getD s i 0)) → (new : List ℕ) → new ≡ front (bytesOf (0 ∷ [])) (take (length s - 120) (drop 120 s))
+        → (0, take 120 s ++ (new ++ drop (length s - 120) (drop 120 s))) ≡ turnLeft s
+    turn-state h known new f = go (stateIn s) refl (sym is ∙ not-false r h) ∙ past-turn
+      where
+        go : (o : Option State) → stateIn s ≡ o → isSome o ≡ true → (0, take 120 s ++ (new ++ drop (length s - 120) (drop 120 s))) ≡ turnsIn s o
+        go (some σ) here e = ap (λ (l : List ℕ). (0, l)) (turned-bytes s room known σ here new f)
+        go none here e = let z : _≡_ {A = ℕ} 0 1 = cc in absurd (omega arith)
 
 -- fernweeks_next
 module _ (s part a e : List ℕ) where
@@ -126,9 +141,16 @@ module _ (s part a e : List ℕ) where
         kept : new ≡ lent (told x new .0) a
         kept = answers .1 ∙ ap (λ (z : Step). lent (z .0) a) (sym (answers .0))
 
-        module _ (τ : State) where
-          pub next-element : (y : Element) (s₁ e₁ : List ℕ) → x ≡ by.Element y τ → s₁ ≡ front (stateBytes τ) s → e₁ ≡ front (elementBytes y) e → left 0 s₁ new e₁ ≡ nextLeft s part a e
-          next-element y s₁ e₁ h f g =
+        -- the state's bytes as they are left, where x has the state τ
+        module _ (known : (i : ℕ) → Fits w8 (getD s i 0)) (τ : State) (s₁ : List ℕ) (put : s₁ ≡ take 80 s ++ front (bytesOf (cursorWords (τ .remembered) (τ .position))) (drop 80 s)) where
+          put-state : told x new .1 ≡ τ → s₁ ≡ front (stateBytes τ) s
+          put-state h =
+              let after : next σ part (length a) .1 ≡ τ = ap (λ (z : Step). z .1) (sym (answers .0)) ∙ h in
+              put ∙ moved-bytes s room known σ (some-state (stateIn s) σ (sym here ∙ is)) (cursor τ) τ (ap (λ (υ : State). moved σ (cursor υ)) (sym after) ∙ next-moved σ part (length a) ∙ after)
+
+          pub next-element : (y : Element) (e₁ : List ℕ) → x ≡ by.Element y τ → e₁ ≡ front (elementBytes y) e → left 0 s₁ new e₁ ≡ nextLeft s part a e
+          next-element y e₁ h g =
+              let f = put-state (ap (λ (q : Next). told q new .1) h) in
               let n : new ≡ lent (element (y, take (y .count) new)) a = kept ∙ ap (λ (q : Next). lent (told q new .0) a) h in
               ap (λ (l : List ℕ). left 0 l new e₁) f
               ∙ ap (λ (l : List ℕ). left 0 (front (stateBytes τ) s) new l) g
@@ -136,14 +158,16 @@ module _ (s part a e : List ℕ) where
               ∙ sym (ap (λ (q : Next). tells (told q new)) h)
               ∙ past-next
 
-          pub next-end : (s₁ : List ℕ) → x ≡ by.End τ → s₁ ≡ front (stateBytes τ) s → left 255 s₁ new e ≡ nextLeft s part a e
-          next-end s₁ h f =
+          pub next-end : x ≡ by.End τ → left 255 s₁ new e ≡ nextLeft s part a e
+          next-end h =
+              let f = put-state (ap (λ (q : Next). told q new .1) h) in
               let n : new ≡ a = kept ∙ ap (λ (q : Next). lent (told q new .0) a) h in
               ap (λ (l : List ℕ). left 255 l new e) f
               ∙ ap (λ (l : List ℕ). left 255 (front (stateBytes τ) s) l e) n
               ∙ sym (ap (λ (q : Next). tells (told q new)) h)
               ∙ past-next
 
+        module _ (τ : State) where
           pub next-spoilt : x ≡ by.Spoilt τ → left 5 s new e ≡ nextLeft s part a e
           next-spoilt h =
               let n : new ≡ a = kept ∙ ap (λ (q : Next). lent (told q new .0) a) h in

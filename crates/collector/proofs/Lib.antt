@@ -1,2 +1,3 @@
 pub mod Helpers
+pub mod Kept
 pub mod Calls

@@ -1,12 +1,15 @@
 // The calls that other languages make: numbers and byte slices alone. State and element cross as bytes of fixed lengths (docs/LAYOUT.md).
 ghost use mathlib.Core.Path.{_≡_};
 ghost use mathlib.Core.Bool.{cond};
+ghost use mathlib.Core.List.{_++_};
 ghost use Prim.Native.Nat.{_≤_};
-ghost use lib.ListN.{length};
+ghost use lib.ListN.{length, take, drop};
 ghost use Rattle.output.specs.Output.{front};
 ghost use Rattle.text_dump_header.specs.Header.{header};
 ghost use Rattle.text_dump_header.specs.Detect.{detect};
-ghost use Rattle.codec.specs.Spelling.{asState};
+ghost use Rattle.little.specs.Little.{bytesOf};
+ghost use Rattle.codec.specs.Words.{cursorWords};
+ghost use Rattle.codec.specs.Spelling.{isSome, asState};
 ghost use Rattle.collector.specs.Bytes.{stateBytes, elementBytes, stateIn};
 ghost use Rattle.collector.specs.Exports.{lineAtFault, openLeft, turnLeft, left, nextLeft};
 use codec::StateRead;
@@ -19,6 +22,20 @@ use text_dump_header::HeaderRead;
 const STATE_LEN: usize = 128;
 
 const ELEMENT_LEN: usize = 176;
+
+// Where in a state the remembered prefix and, behind it, the position stand.
+const CURSOR: usize = 80;
+
+const POSITION: usize = 120;
+
+fn holds_state(state: &[u8]) -> bool
+    requires { ⌜ 128 ≤ length (now state) ⌝ }
+    ensures { λ r. ⌜ r ≡ isSome (stateIn (now (state .entry))) ⌝ }
+{
+    let mut words = [0u64; 16];
+    little::get_words(state, &mut words);
+    codec::is_state(&words)
+}
 
 fn get_state(state: &[u8]) -> StateRead
     requires { ⌜ 128 ≤ length (now state) ⌝ }
@@ -34,6 +51,16 @@ fn put_state(s: State, state: &mut [u8])
 {
     let words = codec::state_words(s);
     little::put_words(&words, state);
+}
+
+// All that next can change of a state that the bytes spell.
+fn put_cursor(s: State, state: &mut [u8])
+    requires { ⌜ 128 ≤ length (now state) ⌝ }
+    ensures { λ _. ⌜ now (state .exit) ≡ take 80 (now (state .entry)) ++ front (bytesOf (cursorWords (s .remembered) (s .position))) (drop 80 (now (state .entry))) ⌝ }
+{
+    let remembered = s.remembered;
+    let words = codec::cursor_words(remembered, s.position);
+    little::put_words(&words, &mut state[CURSOR..]);
 }
 
 fn put_element(e: Element, element: &mut [u8])
@@ -104,12 +131,12 @@ pub extern "C" fn fernweeks_next(
     };
     match s.next(part, asns) {
         Next::Element(e, after) => {
-            put_state(after, state);
+            put_cursor(after, state);
             put_element(e, element);
             0
         }
         Next::End(after) => {
-            put_state(after, state);
+            put_cursor(after, state);
             255
         }
         Next::Spoilt(_) => 5,
@@ -125,10 +152,11 @@ pub extern "C" fn fernweeks_turn(state: &mut [u8]) -> u32
     if state.len() < STATE_LEN {
         return 9;
     }
-    let StateRead::State(s) = get_state(&state[..]) else {
+    if !holds_state(&state[..]) {
         return 5;
-    };
-    let turned = s.turn();
-    put_state(turned, state);
+    }
+    // the position alone: all else is as it was
+    let start = [0u64];
+    little::put_words(&start, &mut state[POSITION..]);
     0
 }

@@ -1,13 +1,13 @@
 -- Laws of text written into a lent list.
 use mathlib.Core.Path.{_≡_, refl, sym, ap, _∙_}
 use mathlib.Core.List.{List, [], _∷_, _++_, append-assoc, append-nil}
-use mathlib.Core.Bool.{Bool, true, false}
+use mathlib.Core.Bool.{Bool, true, false, cond}
 use Prim.Native.Nat.{ℕ, suc, _+_, _-_, _≤_, _<_, min}
 use native.Mathlib.Nat.{zero-add, add-zero, add-assoc, min-eq-left}
 use native.Mathlib.Numerals.{add-one}
 use native.Mathlib.Omega.{arith}
-use lib.ListN.{length, getD, take, drop, set, length-append, length-take}
-use lib.Seq.{paste, paste-zero, paste-suc, length-paste, take-paste, drop-paste, drop-drop, take-append-add, take-append-le, take-all, take-length, set-split, append-snoc}
+use lib.ListN.{length, getD, take, drop, set, drop-of-length-le, length-append, length-take, length-drop}
+use lib.Seq.{paste, paste-zero, paste-suc, length-paste, take-paste, drop-paste, drop-drop, drop-append-add, take-append-add, take-append-le, take-all, take-length, set-split, append-snoc}
 use lib.Dec.{leb}
 use borrow.Author.Tests.{le-leb, lt-leb, leb-true, leb-false}
 use Rattle.output.specs.Output.{room, overwrite, Written, front, answer}
@@ -217,3 +217,23 @@ module _ (t out : List ℕ) (n : ℕ) (e : n ≡ length t) where
   unfolding front
   whole new a h w =
       w .list ∙ overwrite-all out 0 t (omega arith) ∙ simp (zero-add, le-leb (length t) (length out) (omega arith))
+
+-- a text whose beginning stands there already: what is behind it is written
+pub front-behind : (a t out : List ℕ) → front (a ++ t) (a ++ out) ≡ a ++ front t out
+unfolding front
+front-behind a t out = rw (length-append a t, length-append a out) (go (leb (length t) (length out)) refl)
+  where
+    go : (b : Bool) → leb (length t) (length out) ≡ b
+        → cond (leb (length a + length t) (length a + length out)) (a ++ t ++ drop (length a + length t) (a ++ out)) (a ++ out) ≡ a ++ cond (leb (length t) (length out)) (t ++ drop (length t) out) out
+    go true e =
+        let h : length t ≤ length out = leb-true (length t) (length out) e in
+        rw (e, le-leb (length a + length t) (length a + length out) (omega arith), drop-append-add a out (length t)) (append-assoc a t (drop (length t) out))
+    go false e =
+        let h : length out < length t = leb-false (length t) (length out) e in
+        rw (e, lt-leb (length a + length t) (length a + length out) (omega arith))
+
+-- a text put to the front of what stands behind n
+pub front-part : (t s new : List ℕ) (n : ℕ) → new ≡ front t (take (length s - n) (drop n s)) → take n s ++ (new ++ drop (length s - n) (drop n s)) ≡ take n s ++ front t (drop n s)
+front-part t s new n e =
+    let all : length (drop n s) ≤ length s - n = omega (arith, length-drop n s) in
+    rw (e, take-all (length s - n) (drop n s) all, drop-of-length-le (drop n s) all, append-nil)

@@ -1,7 +1,7 @@
 -- What next answers, case by case.
 use Prim.Native.Nat.{ℕ, _-_, _≤_, _<_}
 use mathlib.Core.Path.{_≡_, refl, sym, ap, subst, _∙_}
-use mathlib.Core.Bool.{Bool, true, false}
+use mathlib.Core.Bool.{Bool, true, false, cond}
 use mathlib.Core.List.{List, [], _∷_, _++_}
 use mathlib.Core.Logic.{⊎-elim}
 use native.Mathlib.Omega.{arith}
@@ -41,7 +41,7 @@ use Rattle.text_dump.specs.declared.Next.{Next}
 use Rattle.text_dump.specs.declared.Next.the-variants.{Element, End, Spoilt, Unreadable, TooFewPlaces}
 use Rattle.text_dump.specs.declared.Reached.{Reached}
 use Rattle.text_dump.specs.declared.Reached.the-variants.{Route as AtRoute, End as AtEnd, Unreadable as AtUnreadable}
-use Rattle.text_dump.proofs.StateLaws.{moved-cursor, position-inside}
+use Rattle.text_dump.proofs.StateLaws.{moved-cursor, cursor-moved, position-inside}
 
 -- the loop over the lines
 module _ (σ : State) (t : List ℕ) where
@@ -192,3 +192,12 @@ module _ (σ : State) (t old : List ℕ) (b : Bool) (eb : b ≡ spoilt σ (lengt
         pub at-route : (r : Next) (new : List ℕ) → Answers (stepped σ (atRoute σ (length old) p (e, asnsOf (pathOf e (take (j - i) (drop i t)))) j)) old r new
             → Answers (next σ t (length old)) old r new
         at-route r new h = answers (stepped σ (atRoute σ (length old) p (e, asnsOf (pathOf e (between σ t i j))) j)) (reached (AtRoute p e i j) f) r new h
+
+-- next goes on with the same reading, also where it refuses
+pub next-moved : (σ : State) (t : List ℕ) (k : ℕ) → moved σ (cursor (next σ t k .1)) ≡ next σ t k .1
+unfolding next
+next-moved σ t k = go (spoilt σ (length t))
+  where
+    go : (b : Bool) → moved σ (cursor (cond b (refused 5, σ) (stepped σ (next-at (rules σ) t k (cursor σ))) .1)) ≡ cond b (refused 5, σ) (stepped σ (next-at (rules σ) t k (cursor σ))) .1
+    go true = moved-cursor σ
+    go false = ap (moved σ) (cursor-moved σ (next-at (rules σ) t k (cursor σ) .1))

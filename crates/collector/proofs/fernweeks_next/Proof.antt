@@ -4,7 +4,7 @@ use borrow.Author.Needs.{needs}
 use Rattle.collector.proofs.fernweeks_next.Statement.{statement}
 use Rattle.collector.proofs.fernweeks_next.Tie as tie
 
-ruleset laws = (next-short-state, next-short-element, next-no-state, next-element, next-end, next-spoilt, next-unreadable, next-too-few)
+ruleset laws = (next-short-state, next-short-element, next-no-state, next-spoilt, next-unreadable, next-too-few)
 
 returns : tie.Need-returns
 returns c = search (laws, needs)
@@ -33,8 +33,8 @@ next-requires c κs = search needs
 enum-known-e : tie.Need-enum-known-e
 enum-known-e c = search needs
 
-put-state-requires : tie.Need-put-state-requires
-put-state-requires c κs = search needs
+put-cursor-requires : tie.Need-put-cursor-requires
+put-cursor-requires c κs = c .before .before .before .before .before .before .before .before .before .before .before .before .before .before .if1 .left
 
 put-element-requires : tie.Need-put-element-requires
 put-element-requires c κs = search needs
@@ -42,8 +42,8 @@ put-element-requires c κs = search needs
 enum-known-after : tie.Need-enum-known-after
 enum-known-after c = search needs
 
-put-state-requires-2 : tie.Need-put-state-requires-2
-put-state-requires-2 c κs = search needs
+put-cursor-requires-2 : tie.Need-put-cursor-requires-2
+put-cursor-requires-2 c κs = search needs
 
 enum-told-2 : tie.Need-enum-told-2
 enum-told-2 c = search needs
@@ -71,9 +71,10 @@ returns-4 c =
     let σ = step .before .before .before in
     let got = σ .before .before in
     let room = got .before .before in
-    let a = room .before .before .before .before .before .before .args in
+    let first = room .before .before .before .before .before in
+    let a = first .before .args in
     next-element (a .state .now) (a .part .now) (a .asns .now) (a .element .now) (room .before .if1 .left) (room .if2 .left) _ (got .get-state .ensures) _ (σ .s .given .1)
-    _ _ (step .next .ensures) _ _ _ _ (y .e .given .1) (state .put-state .ensures) (c .before .before .put-element .ensures)
+    _ _ (step .next .ensures) (first .slice-known .given) _ _ (state .put-cursor .ensures) _ _ (y .e .given .1) (c .before .before .put-element .ensures)
 
 same-length-5 : tie.Need-same-length-5
 same-length-5 c = search needs
@@ -82,7 +83,17 @@ same-length-6 : tie.Need-same-length-6
 same-length-6 c = search needs
 
 returns-5 : tie.Need-returns-5
-returns-5 c = search (laws, needs)
+returns-5 c =
+    let state = c .before .before in
+    let y = state .before .before .before in
+    let step = y .before .before .before .before in
+    let σ = step .before .before .before in
+    let got = σ .before .before in
+    let room = got .before .before in
+    let first = room .before .before .before .before .before in
+    let a = first .before .args in
+    next-end (a .state .now) (a .part .now) (a .asns .now) (a .element .now) (room .before .if1 .left) (room .if2 .left) _ (got .get-state .ensures) _ (σ .s .given .1)
+    _ _ (step .next .ensures) (first .slice-known .given) _ _ (state .put-cursor2 .ensures) (y .after .given .1)
 
 same-length-7 : tie.Need-same-length-7
 same-length-7 c = search needs
@@ -124,10 +135,10 @@ fernweeks-next-spec =
     returns-3
     next-requires
     enum-known-e
-    put-state-requires
+    put-cursor-requires
     put-element-requires
     enum-known-after
-    put-state-requires-2
+    put-cursor-requires-2
     enum-told-2
     enum-told-3
     enum-told-4

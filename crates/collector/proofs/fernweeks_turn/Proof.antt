@@ -9,14 +9,8 @@ ruleset laws = (turn-short, turn-no-state, turn-state)
 returns : tie.Need-returns
 returns c = search (laws, needs)
 
-get-state-requires : tie.Need-get-state-requires
-get-state-requires c κs = search needs
-
-enum-known-s : tie.Need-enum-known-s
-enum-known-s c = search needs
-
-enum-told : tie.Need-enum-told
-enum-told c = search needs
+holds-state-requires : tie.Need-holds-state-requires
+holds-state-requires c κs = search needs
 
 same-length : tie.Need-same-length
 same-length c = search needs
@@ -24,11 +18,20 @@ same-length c = search needs
 returns-2 : tie.Need-returns-2
 returns-2 c = search (laws, needs)
 
-turn-requires : tie.Need-turn-requires
-turn-requires c κs = search needs
+slice-aggregate-put-words : tie.Need-slice-aggregate-put-words
+slice-aggregate-put-words c = search needs
 
-put-state-requires : tie.Need-put-state-requires
-put-state-requires c κs = search needs
+sub-put-words : tie.Need-sub-put-words
+sub-put-words c = search needs
+
+part-put-words-start : tie.Need-part-put-words-start
+part-put-words-start c = search needs
+
+part-put-words-end : tie.Need-part-put-words-end
+part-put-words-end c = search needs
+
+put-words-requires : tie.Need-put-words-requires
+put-words-requires c κs = search needs
 
 same-length-2 : tie.Need-same-length-2
 same-length-2 c = search needs
@@ -41,12 +44,13 @@ fernweeks-turn-spec =
     tie.close
     (tie.spec
     returns
-    get-state-requires
-    enum-known-s
-    enum-told
+    holds-state-requires
     same-length
     returns-2
-    turn-requires
-    put-state-requires
+    slice-aggregate-put-words
+    sub-put-words
+    part-put-words-start
+    part-put-words-end
+    put-words-requires
     same-length-2
     returns-3)
