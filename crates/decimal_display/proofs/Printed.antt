@@ -6,15 +6,15 @@ use Prim.Native.Nat.{ℕ, zero, suc, _+_, _-_, _/_, _%_, _^_, _≤_, _<_}
 use native.Mathlib.Nat.{le-refl, pow-suc, one-le-pow}
 use native.Mathlib.Numerals.{unary-clauses}
 use native.Mathlib.Omega.{arith}
-use lib.ListN.{length, take, drop, set, length-append}
+use lib.ListN.{length, take, drop, set, length-append, length-set}
 use mir.Syntax.{w64}
 use mir.Val.{Fits}
 use lib.Seq.{drop-length, take-append-le, take-all}
 use lib.Dec.{ltb}
 use borrow.Author.Tests.{lt-ltb, le-ltb, ltb-false, ltb-true}
-use Rattle.decimal_display.specs.Printed.{decimals, decimal, difference}
+use Rattle.decimal_display.specs.Printed.{decimals, decimal, two, four, difference}
 use Rattle.output.specs.Output.{Written}
-use Rattle.output.proofs.Output.{part-written, then}
+use Rattle.output.proofs.Output.{part-written, byte-written, then}
 
 -- any number of digits above n does the same
 enough : (k m n : ℕ) → n < k → n < m → decimals k n ≡ decimals m n
@@ -91,23 +91,33 @@ drop-set-two (x ∷ []) j a b h = absurd (omega arith)
 drop-set-two (x ∷ z ∷ l) zero a b h = refl
 drop-set-two (x ∷ z ∷ l) (suc j) a b h = simp unary-clauses (simp unary-clauses at (drop-set-two (z ∷ l) j a b (omega arith)))
 
--- a number's last two digits
-decimal-longer : (y : ℕ) → 100 ≤ y → decimal y ≡ decimal (y / 100) ++ ((48 + y % 100 / 10) ∷ (48 + y % 100 % 10) ∷ [])
-decimal-longer y h = decimal-long y (omega arith) ∙ rw (decimal-long (y / 10) (omega arith), p, q, r) (append-assoc (decimal (y / 100)) _ _)
-  where
-    p : y / 10 / 10 ≡ y / 100
-    p = omega arith
+-- two groups of digits at the end of a number, where one can be parted off
+two-groups : (b y h m l : ℕ) (t : ℕ → List ℕ) → ((z : ℕ) → b ≤ z → decimal z ≡ decimal (z / b) ++ t (z % b)) → b ≤ y → b ≤ y / b → y / b / b ≡ h → y / b % b ≡ m → y % b ≡ l
+    → decimal y ≡ decimal h ++ (t m ++ t l)
+two-groups b y h m l t one p q e f g = one y p ∙ rw (one (y / b) q, e, f, g) (append-assoc (decimal h) (t m) (t l))
 
-    q : y / 10 % 10 ≡ y % 100 / 10
-    q = omega arith
+-- a number's last two digits, and its last four
+decimal-longer : (y : ℕ) → 100 ≤ y → decimal y ≡ decimal (y / 100) ++ two (y % 100)
+unfolding two
+decimal-longer y h =
+    two-groups 10 y (y / 100) (y % 100 / 10) (y % 100 % 10) (λ d. (48 + d) ∷ []) decimal-long (omega arith) (omega arith) (omega arith) (omega arith) (omega arith)
 
-    r : y % 10 ≡ y % 100 % 10
-    r = omega arith
+decimal-longest : (n : ℕ) → 10000 ≤ n → decimal n ≡ decimal (n / 10000) ++ four (n % 10000)
+unfolding four
+decimal-longest n h =
+    two-groups 100 n (n / 10000) (n % 10000 / 100) (n % 10000 % 100) two decimal-longer (omega arith) (omega arith) (omega arith) (omega arith) (omega arith)
 
-decimal-two : (y : ℕ) → 10 ≤ y → y < 100 → decimal y ≡ (48 + y / 10) ∷ (48 + y % 10) ∷ []
+-- a number that has no more
+decimal-two : (y : ℕ) → 10 ≤ y → y < 100 → decimal y ≡ two y
+unfolding two
 decimal-two y h l = decimal-long y h ∙ rw (decimal-short (y / 10) (omega arith))
 
+decimal-four : (n : ℕ) → 1000 ≤ n → n < 10000 → decimal n ≡ four n
+unfolding four
+decimal-four n h l = decimal-longer n (omega arith) ∙ rw (decimal-two (n / 100) (omega arith) (omega arith))
+
 length-longer : (y : ℕ) → 100 ≤ y → length (decimal y) ≡ length (decimal (y / 100)) + 2
+unfolding two
 length-longer y h = simp (decimal-longer y h, length-append)
 
 -- filling a list from its end: the digits of y are still to be written, before the place i
@@ -129,10 +139,12 @@ module _ (y i : ℕ) (f : length (decimal y) ≡ i) where
     second-inside h = omega (arith, length-longer y h)
 
     pub two-inside : 10 ≤ y → y < 100 → 1 < length out
+    unfolding two
     two-inside h k = omega (arith, ap length (decimal-two y h k))
 
   module _ (t out : List ℕ) (g : t ≡ decimal y ++ drop i out) (l : i ≤ length out) where
     pub two-more : 100 ≤ y → t ≡ decimal (y / 100) ++ drop (i - 2) (set (set out (i - 2) (48 + y % 100 / 10)) (i - 2 + 1) (48 + y % 100 % 10))
+    unfolding two
     two-more h = g ∙ rw (decimal-longer y h) (append-assoc (decimal (y / 100)) _ _ ∙ ap (λ (r : List ℕ). decimal (y / 100) ++ r) (sym here))
       where
         z : i - 2 + 2 ≡ i
@@ -148,6 +160,7 @@ module _ (y i : ℕ) (f : length (decimal y) ≡ i) where
         z = rw (decimal-short y h) at f
 
     pub last-two : 10 ≤ y → y < 100 → set (set out 0 (48 + y / 10)) 1 (48 + y % 10) ≡ t
+    unfolding two
     last-two h k = drop-set-two out 0 (48 + y / 10) (48 + y % 10) (omega (arith, z)) ∙ sym (g ∙ rw (decimal-two y h k, ← z))
       where
         z : 2 ≡ i
@@ -179,6 +192,37 @@ pub digits-written : (n y len at : ℕ) (out ys : List ℕ) → ys ≡ decimal y
     → Written (decimal n) out at (take at out ++ (ys ++ drop (at + len - at) (drop at out))) (at + len)
 digits-written n y len at out ys e f h g =
     part-written (decimal n) out ys at len (e ∙ sym (g ∙ take-all (length out - at) (decimal y) (omega arith))) (f ∙ ap length (sym e))
+
+-- groups of digits put one behind the other
+module _ (n at : ℕ) (out : List ℕ) where
+  pub two-put : at + 2 ≤ length out → Written (two n) out at (set (set out at (48 + n / 10)) (at + 1) (48 + n % 10)) (at + 2)
+  unfolding two
+  two-put h =
+      let z : at + 1 + 1 ≡ at + 2 = omega arith in
+      then (byte-written (48 + n / 10) out at (omega arith)) (rw z at (byte-written (48 + n % 10) (set out at (48 + n / 10)) (at + 1) (simp length-set (omega arith))))
+
+  pub four-put : (o₁ o₂ : List ℕ) → Written (two (n / 100)) out at o₁ (at + 2) → Written (two (n % 100)) o₁ (at + 2) o₂ (at + 2 + 2) → Written (four n) out at o₂ (at + 4)
+  unfolding four
+  four-put o₁ o₂ v w = let z : at + 2 + 2 ≡ at + 4 = omega arith in then v (rw z at w)
+
+  pub one-digit : n < 10 → at + 4 ≤ length out → Written (decimal n) out at (set out at (48 + n)) (at + 1)
+  one-digit h l = rw (decimal-short n h) (byte-written (48 + n) out at (omega arith))
+
+  pub two-digits : (o : List ℕ) → 10 ≤ n → n < 100 → Written (two n) out at o (at + 2) → Written (decimal n) out at o (at + 2)
+  two-digits o h l w = rw (decimal-two n h l) w
+
+  pub three-digits : (o : List ℕ) → 100 ≤ n → n < 1000 → at + 4 ≤ length out → Written (two (n % 100)) (set out at (48 + n / 100)) (at + 1) o (at + 1 + 2)
+      → Written (decimal n) out at o (at + 3)
+  three-digits o h l f w =
+      let z : at + 1 + 2 ≡ at + 3 = omega arith in
+      rw (decimal-longer n h, decimal-short (n / 100) (omega arith)) (then (byte-written (48 + n / 100) out at (omega arith)) (rw z at w))
+
+  pub four-digits : (o : List ℕ) → 1000 ≤ n → n < 10000 → Written (four n) out at o (at + 4) → Written (decimal n) out at o (at + 4)
+  four-digits o h l w = rw (decimal-four n h l) w
+
+  pub more-than-four : (o₁ o₂ : List ℕ) (p : ℕ) → 10000 ≤ n → Written (decimal (n / 10000)) out at o₁ p → Written (four (n % 10000)) o₁ p o₂ (p + 4)
+      → Written (decimal n) out at o₂ (p + 4)
+  more-than-four o₁ o₂ p h v w = rw (decimal-longest n h) (then v w)
 
 -- the size of a difference, and a difference as a text
 pub negative-length : (a b len : ℕ) → a < b → len ≡ length (decimal (b - a)) → 1 + len ≡ length (difference a b)

@@ -1,8 +1,8 @@
 // Decimal numbers printed.
 ghost use mathlib.Core.Path.{_≡_};
-ghost use Prim.Native.Nat.{_≤_, _<_};
+ghost use Prim.Native.Nat.{_+_, _≤_, _<_};
 ghost use lib.ListN.{length};
-ghost use Rattle.decimal_display.specs.Printed.{decimal, difference};
+ghost use Rattle.decimal_display.specs.Printed.{decimal, two, four, difference};
 ghost use Rattle.output.specs.Output.{Written, front, answer};
 
 // How many digits n has. The powers do not depend on n: the loop unrolls to comparisons.
@@ -77,10 +77,64 @@ pub fn write_u64(n: u64, out: &mut [u8], at: usize) -> usize
     behind
 }
 
+// Groups of digits where the caller has seen that there is room.
+fn put_two(n: u32, out: &mut [u8], at: usize)
+    requires { ⌜ (n < 100) × (at + 2 ≤ length (now out)) ⌝ }
+    ensures { λ _. ⌜ Written (two n) (now (out .entry)) at (now (out .exit)) (at + 2) ⌝ }
+{
+    out[at] = (48 + n / 10) as u8;
+    out[at + 1] = (48 + n % 10) as u8;
+}
+
+fn put_four(n: u32, out: &mut [u8], at: usize)
+    requires { ⌜ (n < 10000) × (at + 4 ≤ length (now out)) ⌝ }
+    ensures { λ _. ⌜ Written (four n) (now (out .entry)) at (now (out .exit)) (at + 4) ⌝ }
+{
+    put_two(n / 100, out, at);
+    put_two(n % 100, out, at + 2);
+}
+
+// As many digits as a number below 10000 has.
+fn put_small(n: u32, out: &mut [u8], at: usize) -> usize
+    requires { ⌜ (n < 10000) × (at + 4 ≤ length (now out)) ⌝ }
+    ensures { λ r. ⌜ (Written (decimal n) (now (out .entry)) at (now (out .exit)) r) × (r ≤ at + 4) ⌝ }
+{
+    if n < 100 {
+        if n < 10 {
+            out[at] = (48 + n) as u8;
+            return at + 1;
+        }
+        put_two(n, out, at);
+        return at + 2;
+    }
+    if n < 1000 {
+        out[at] = (48 + n / 100) as u8;
+        put_two(n % 100, out, at + 1);
+        return at + 3;
+    }
+    put_four(n, out, at);
+    at + 4
+}
+
+// Most numbers have at most eight digits, and room for eight: then nothing is counted first, and there is no loop.
 pub fn write_u32(n: u32, out: &mut [u8], at: usize) -> usize
     ensures { λ r. ⌜ Written (decimal n) (now (out .entry)) at (now (out .exit)) r ⌝ }
 {
-    write_u64(n as u64, out, at)
+    if out.len() < 8 {
+        return write_u64(n as u64, out, at);
+    }
+    if out.len() - 8 < at {
+        return write_u64(n as u64, out, at);
+    }
+    if 100000000 <= n {
+        return write_u64(n as u64, out, at);
+    }
+    if n < 10000 {
+        return put_small(n, out, at);
+    }
+    let end = put_small(n / 10000, out, at);
+    put_four(n % 10000, out, end);
+    end + 4
 }
 
 // The whole number a - b, and how many bytes it takes.
