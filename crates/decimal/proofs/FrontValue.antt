@@ -5,48 +5,53 @@ use mathlib.Core.Bool.{true}
 use mathlib.Core.List.{List, [], _∷_, _++_, map, map-append, append-nil}
 use mathlib.Core.Option.{some}
 use native.Mathlib.Omega.{arith}
-use lib.Bits.{bitAnd, bitXor, xor-block, xor-lt}
+use lib.Bits.{bitAnd, bitXor}
 use lib.ListN.{length, getD, take, drop, replicate, length-append, length-replicate, length-map, take-append-drop}
 use lib.Seq.{take-at}
 use lib.Dec.{eqb}
 use borrow.Author.Tests.{eqb-true}
 use Rattle.word.specs.Word.{number, bytes, littleEndian}
 use Rattle.word.proofs.Laws.{Bytes, length-bytes, bytes-fit, number-back, number-shift, number-zeros, bytes-back}
-use Rattle.word.proofs.Lanes.{lane, joined}
+use Rattle.word.proofs.Lanes.{same, xor-bytes, xor-number, allBelow, all-below, joined}
 use Rattle.decimal.specs.Decimal.{isDigit, behind, leading, orZero, placed, firstDigits}
 use Rattle.decimal.specs.declared.FirstDigits.{FirstDigits}
 use Rattle.decimal.proofs.Laws.{digit-low, digit-high, behind-cons}
 use Rattle.decimal.proofs.Leading.{leading-front, leading-le, leading-value}
-use Rattle.decimal.proofs.FrontCount.{allBelow, all-below, same}
 
 -- each is a digit as a number
 abbrev pub Small : List ℕ → Type 0
 Small s = (i : ℕ) → getD s i 0 < 10
 
--- the code's joins, of eight digits
-eight : (a b c d e f g h y t u : ℕ) → a < 10 → b < 10 → c < 10 → d < 10 → e < 10 → f < 10 → g < 10 → h < 10 → y ≡ number (a ∷ b ∷ c ∷ d ∷ e ∷ f ∷ g ∷ h ∷ [])
-    → t ≡ bitAnd (y * 10 + y / 256) 71777214294589695 → u ≡ bitAnd (t * 100 + t / 65536) 281470681808895
-    → bitAnd (u * 10000 + u / 4294967296) 4294967295 ≡ placed 0 (a ∷ b ∷ c ∷ d ∷ e ∷ f ∷ g ∷ h ∷ [])
-unfolding number placed
-eight a b c d e f g h y t u la lb lc ld le lf lg lh o p q =
-    let t0 = joined 8 10 a b c (d + 256 * (e + 256 * (f + 256 * (g + 256 * (h + 256 * 0))))) 1095233372415 (omega arith) (omega arith) (omega arith) in
-    let t1 = joined 8 10 c d e (f + 256 * (g + 256 * (h + 256 * 0))) 16711935 (omega arith) (omega arith) (omega arith) in
-    let t2 = joined 8 10 e f g (h + 256 * 0) 255 (omega arith) (omega arith) (omega arith) in
-    let t3 = joined 8 10 g h 0 0 0 (omega arith) (omega arith) (omega arith) in
-    let u0 = joined 16 100 (a * 10 + b) (c * 10 + d) (e * 10 + f) (g * 10 + h + 65536 * 0) 65535 (omega arith) (omega arith) (omega arith) in
-    let u1 = joined 16 100 (e * 10 + f) (g * 10 + h) 0 0 0 (omega arith) (omega arith) (omega arith) in
-    let v = joined 32 10000 ((a * 10 + b) * 100 + (c * 10 + d)) ((e * 10 + f) * 100 + (g * 10 + h)) 0 0 0 (omega arith) (omega arith) (omega arith) in
-    let twos : t ≡ a * 10 + b + 65536 * (c * 10 + d + 65536 * (e * 10 + f + 65536 * (g * 10 + h + 65536 * 0))) = p ∙ rw (o, t0, t1, t2, t3) in
-    let fours : u ≡ (a * 10 + b) * 100 + (c * 10 + d) + 4294967296 * ((e * 10 + f) * 100 + (g * 10 + h) + 4294967296 * 0) = q ∙ rw (twos, u0, u1) in
-    rw (fours, v) (omega arith)
+-- the code's joins: of digits to twos, of those to fours, and of those
+abbrev pub twos : ℕ → ℕ
+twos y = bitAnd (y * 10 + y / 256) 71777214294589695
 
-module _ (y : ℕ) (h : Small (littleEndian y)) where
-  pub joins : bitAnd (bitAnd (bitAnd (y * 10 + y / 256) 71777214294589695 * 100 + bitAnd (y * 10 + y / 256) 71777214294589695 / 65536) 281470681808895 * 10000 + bitAnd (bitAnd (y * 10 + y / 256) 71777214294589695 * 100 + bitAnd (y * 10 + y / 256) 71777214294589695 / 65536) 281470681808895 / 4294967296) 4294967295 ≡ placed 0 (littleEndian y)
-  unfolding bytes
-  joins =
-      eight (y % 256) (y / 256 % 256) (y / 256 / 256 % 256) (y / 256 / 256 / 256 % 256) (y / 256 / 256 / 256 / 256 % 256) (y / 256 / 256 / 256 / 256 / 256 % 256) (y / 256 / 256 / 256 / 256 / 256 / 256 % 256) (y / 256 / 256 / 256 / 256 / 256 / 256 / 256)
-      y (bitAnd (y * 10 + y / 256) 71777214294589695) (bitAnd (bitAnd (y * 10 + y / 256) 71777214294589695 * 100 + bitAnd (y * 10 + y / 256) 71777214294589695 / 65536) 281470681808895)
-      (h 0) (h 1) (h 2) (h 3) (h 4) (h 5) (h 6) (h 7) (sym (number-back 7 y)) refl refl
+abbrev pub fours : ℕ → ℕ
+fours t = bitAnd (t * 100 + t / 65536) 281470681808895
+
+abbrev pub eights : ℕ → ℕ
+eights u = bitAnd (u * 10000 + u / 4294967296) 4294967295
+
+-- each pair is joined by itself
+eight : (a b c d e f g h : ℕ) → a < 10 → b < 10 → c < 10 → d < 10 → e < 10 → f < 10 → g < 10 → h < 10
+    → eights (fours (twos (number (a ∷ b ∷ c ∷ d ∷ e ∷ f ∷ g ∷ h ∷ [])))) ≡ placed 0 (a ∷ b ∷ c ∷ d ∷ e ∷ f ∷ g ∷ h ∷ [])
+unfolding number placed
+eight a b c d e f g h la lb lc ld le lf lg lh =
+    let ab = joined 8 10 a b c (number (d ∷ e ∷ f ∷ g ∷ h ∷ [])) 1095233372415 (omega arith) (omega arith) (omega arith) in
+    let cd = joined 8 10 c d e (number (f ∷ g ∷ h ∷ [])) 16711935 (omega arith) (omega arith) (omega arith) in
+    let ef = joined 8 10 e f g (number (h ∷ [])) 255 (omega arith) (omega arith) (omega arith) in
+    let gh = joined 8 10 g h 0 0 0 (omega arith) (omega arith) (omega arith) in
+    let abcd = joined 16 100 (a * 10 + b) (c * 10 + d) (e * 10 + f) (g * 10 + h + 65536 * 0) 65535 (omega arith) (omega arith) (omega arith) in
+    let efgh = joined 16 100 (e * 10 + f) (g * 10 + h) 0 0 0 (omega arith) (omega arith) (omega arith) in
+    let all = joined 32 10000 ((a * 10 + b) * 100 + (c * 10 + d)) ((e * 10 + f) * 100 + (g * 10 + h)) 0 0 0 (omega arith) (omega arith) (omega arith) in
+    rw (ab, cd, ef, gh, abcd, efgh, all) (omega arith)
+
+pub joins : (y : ℕ) → Small (littleEndian y) → eights (fours (twos y)) ≡ placed 0 (littleEndian y)
+unfolding bytes
+joins y h =
+    ap (λ v. eights (fours (twos v))) (sym (number-back 7 y))
+    ∙ eight (y % 256) (y / 256 % 256) (y / 256 / 256 % 256) (y / 256 / 256 / 256 % 256) (y / 256 / 256 / 256 / 256 % 256) (y / 256 / 256 / 256 / 256 / 256 % 256) (y / 256 / 256 / 256 / 256 / 256 / 256 % 256) (y / 256 / 256 / 256 / 256 / 256 / 256 / 256)
+    (h 0) (h 1) (h 2) (h 3) (h 4) (h 5) (h 6) (h 7)
 
 -- digits bound the word that they are
 small-bound : (s : List ℕ) → Small s → number s ≤ same 9 s
@@ -85,17 +90,6 @@ bare-small v n (b ∷ d) e zero =
     omega (arith, bare-digit b f, digit-high b f)
 bare-small v n (b ∷ d) e (suc i) = bare-small (v * 10 + (b - 48)) n d (behind-cons v b n d e .1) i
 
--- and any bytes
-bare-bytes : (s : List ℕ) → Bytes s → Bytes (map bare s)
-bare-bytes [] h i = h i
-bare-bytes (b ∷ s) h zero = record { fits = xor-lt 8 b 48 (h 0 .fits) (omega arith) }
-bare-bytes (b ∷ s) h (suc i) = bare-bytes s (λ j. h (suc j)) i
-
-bare-number : (s : List ℕ) → Bytes s → bitXor (number s) (same 48 s) ≡ number (map bare s)
-unfolding number same
-bare-number [] h = refl
-bare-number (b ∷ s) h = lane bitXor xor-block b 48 (number s) (same 48 s) (h 0 .fits) (omega arith) ∙ rw (bare-number s (λ i. h (suc i)))
-
 -- zeros in front of digits
 zeros-small : (k : ℕ) (s : List ℕ) → Small s → Small (replicate k 0 ++ s)
 zeros-small zero s h i = h i
@@ -127,7 +121,7 @@ module _ (t : List ℕ) (h : Bytes t) (size : length t ≡ 8) where
       let p : 64 - 8 * n ≡ 8 * (8 - n) = omega (arith, few) in
       let q : 64 ≡ 8 * n + 8 * (8 - n) = omega (arith, few) in
       ap₂ (λ (i j : ℕ). number (map bare t) * 2 ^ i % 2 ^ j) p q
-      ∙ number-shift (8 - n) n (map bare t) (bare-bytes t h)
+      ∙ number-shift (8 - n) n (map bare t) (xor-bytes 48 t (omega arith) h)
       ∙ ap (λ l. number l * 2 ^ (8 * (8 - n))) front
       ∙ sym (number-zeros (8 - n) (map bare (leading t)))
 
@@ -151,7 +145,7 @@ module _ (w n : ℕ) (h : w < 2 ^ 64) (e : n ≡ length (leading (littleEndian w
   lanes : littleEndian (bitXor w 3472328296227680304 * 2 ^ (64 - 8 * n) % 2 ^ 64) ≡ row (littleEndian w)
   unfolding bytes same
   lanes =
-      let x : bitXor w 3472328296227680304 ≡ number (map bare (littleEndian w)) = rw number-back at (bare-number (littleEndian w) (bytes-fit 7 w h)) in
+      let x : bitXor w 3472328296227680304 ≡ number (map bare (littleEndian w)) = rw number-back at (xor-number 48 (littleEndian w) (omega arith) (bytes-fit 7 w h)) in
       ap₂ (λ (v k : ℕ). littleEndian (v * 2 ^ (64 - 8 * k) % 2 ^ 64)) x e
       ∙ ap littleEndian (shifted (littleEndian w) (bytes-fit 7 w h) refl)
       ∙ row-back (littleEndian w) (bytes-fit 7 w h) refl

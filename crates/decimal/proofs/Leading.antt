@@ -12,11 +12,10 @@ use lib.ListN.{length, getD, take, drop, length-append, length-drop, drop-of-len
 use lib.Seq.{drop-cons, drop-drop, take-suc, getD-drop, length-take-le}
 use lib.Dec.{leb}
 use borrow.Author.Tests.{le-leb, lt-leb, leb-true, leb-false}
-use Rattle.decimal.specs.Decimal.{isDigit, behind, digits, leading, orZero, digitsAt}
+use Rattle.decimal.specs.Decimal.{isDigit, behind, leading, orZero, digitsAt}
 use Rattle.decimal.specs.declared.DigitsRead.{DigitsRead}
 use Rattle.decimal.specs.declared.DigitsRead.the-variants.{Digits, Many}
 use Rattle.decimal.proofs.Laws.{behind-cons, behind-append, behind-bound}
-use Rattle.decimal.proofs.Reading.{start}
 
 -- the bytes of s from i up to e
 abbrev pub part : List ℕ → ℕ → ℕ → List ℕ
@@ -100,7 +99,7 @@ unfolding behind
 run-starts s i = let z : i - i ≡ 0 = omega arith in record { from = omega arith; few = omega arith; inside = λ l. absurd (omega arith); value = rw z }
 
 module _ (s : List ℕ) (at i v : ℕ) (r : Run s at i v) where
-  pub run-size : length (part s at i) ≡ i - at
+  run-size : length (part s at i) ≡ i - at
   run-size = go (leb i at) refl
     where
       go : (z : Bool) → leb i at ≡ z → length (part s at i) ≡ i - at
@@ -113,7 +112,7 @@ module _ (s : List ℕ) (at i v : ℕ) (r : Run s at i v) where
       let m : 10 ^ (i - at) ≤ 10 ^ k = pow-le-pow-right (omega arith) l in
       omega arith
 
-  pub run-whole : drop at s ≡ part s at i ++ drop i s
+  run-whole : drop at s ≡ part s at i ++ drop i s
   run-whole =
       let j : at + (i - at) ≡ i = omega (arith, r .from) in
       sym (take-append-drop (i - at) (drop at s)) ∙ ap (λ l. part s at i ++ l) (drop-drop (i - at) at s ∙ rw j)

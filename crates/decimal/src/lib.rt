@@ -185,5 +185,8 @@ pub fn first_digits(w: u64) -> FirstDigits
     if n == 0 {
         return FirstDigits { count: 0, value: 0 };
     }
-    FirstDigits { count: n, value: digits_value(w, n) }
+    FirstDigits {
+        count: n,
+        value: digits_value(w, n),
+    }
 }

@@ -26,8 +26,7 @@ use Rattle.decimal.proofs.Reading.{start}
 use Rattle.decimal.proofs.Leading.{leading-front, leading-value}
 use Rattle.decimal.proofs.FrontValue.{first-of}
 use Rattle.path_text.specs.Path.{numbers}
-use Rattle.path_text.specs.Walk.{Takes, IsPlain, lone}
-use Rattle.path_text.specs.declared.Plain.the-variants.{Other as NoPlain}
+use Rattle.path_text.specs.Walk.{Takes, lone}
 use Rattle.path_text.proofs.TokensLaws.{parted, digits-token}
 
 -- a lone byte that is no digit is no number
@@ -124,8 +123,5 @@ module _ (s : List ℕ) (at w : ℕ) (r : FirstDigits) (bytes : Bytes s) (q : w 
       let some-digit : digits front ≡ some v = start front (λ z. some-count (size ∙ z)) ∙ made in
       let cut : tokens (drop at s) ≡ front ∷ tokens rest = ap tokens whole ∙ parted front rest ∙ ap (λ x. x ++ tokens rest) (digits-token v front some-digit) in
       let low : 10 ^ length front ≤ 10 ^ 7 = pow-le-pow-right (omega arith) {j = 7} (omega (arith, size)) in
-      let number : readU32 front ≡ Number v = rw (unsigned-digits v front some-digit, lt-ltb v (2 ^ 32) (omega (arith, digits-bound v front some-digit))) in
-      (record { later = omega arith; inside = omega (arith, plain-inside) }, rw (cut, number))
-
-pub nothing-told : (s : List ℕ) (at : ℕ) → IsPlain s at NoPlain
-nothing-told s at = tt
+      let reads : readU32 front ≡ Number v = rw (unsigned-digits v front some-digit, lt-ltb v (2 ^ 32) (omega (arith, digits-bound v front some-digit))) in
+      (record { later = omega arith; inside = omega (arith, plain-inside) }, rw (cut, reads))

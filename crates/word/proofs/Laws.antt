@@ -2,12 +2,12 @@
 use mathlib.Core.Path.{_≡_, refl, sym, ap, _∙_}
 use mathlib.Core.List.{List, [], _∷_, _++_}
 use Prim.Native.Nat.{ℕ, zero, suc, _+_, _-_, _*_, _/_, _%_, _^_, _≤_, _<_}
+use native.Mathlib.Nat.{zero-div, zero-mod, mul-mod-left}
 use native.Mathlib.Omega.{arith}
 use mir.Syntax.{w8}
 use mir.Val.{Fits}
 use lib.ListN.{length, getD, take, drop, replicate}
 use lib.Pow.{pow-add, shl-shr, shr-shr, mod-pow-add, shr-lt}
-use native.Mathlib.Nat.{zero-div, zero-mod, mul-mod-left}
 use lib.Seq.{getD-drop}
 use Rattle.word.specs.Word.{bytes, number}
 
@@ -22,7 +22,7 @@ unfolding bytes number
 number-back zero v = omega arith
 number-back (suc n) v = rw (number-back n (v / 256)) (omega arith)
 
--- each of the list is a byte
+-- each of a list is a byte
 abbrev pub Bytes : List ℕ → Type 0
 Bytes s = (i : ℕ) → Fits w8 (getD s i 0)
 
@@ -38,7 +38,7 @@ take-bytes (suc n) (b ∷ s) h (suc i) = take-bytes n s (λ j. h (suc j)) i
 next-byte : (k : ℕ) → 8 * suc k ≡ 8 * k + 8
 next-byte k = omega arith
 
--- a number of that many bytes is in bytes
+-- the last one too, where the number has no more
 pub bytes-fit : (n v : ℕ) → v < 2 ^ (8 * suc n) → Bytes (bytes n v)
 unfolding bytes
 bytes-fit zero v h zero = record { fits = h }
@@ -46,7 +46,7 @@ bytes-fit zero v h (suc i) = record { fits = omega arith }
 bytes-fit (suc n) v h zero = record { fits = omega arith }
 bytes-fit (suc n) v h (suc i) = bytes-fit n (v / 256) (shr-lt (8 * suc n) 8 (rw next-byte at h)) i
 
--- the k lowest bytes of a number are shifted out, and are its remainder
+-- the k lowest bytes are shifted out, and they are the remainder
 pub number-drop : (k : ℕ) (s : List ℕ) → Bytes s → number s / 2 ^ (8 * k) ≡ number (drop k s)
 unfolding number
 number-drop zero s h = omega arith
@@ -64,7 +64,7 @@ number-take (suc k) (b ∷ s) h =
     let q : (b + 256 * number s) / 256 ≡ number s = omega (arith, h 0) in
     rw next-byte (mod-pow-add (b + 256 * number s) (8 * k) 8 ∙ rw (q, number-take k s (λ i. h (suc i))) (omega (arith, h 0)))
 
--- one of them
+-- the byte at k
 pub byte-at : (k : ℕ) (s : List ℕ) → Bytes s → number s / 2 ^ (8 * k) % 256 ≡ getD s k 0
 unfolding number
 byte-at k s h =

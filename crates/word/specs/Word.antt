@@ -12,6 +12,6 @@ unfoldable pub bytes : ℕ → ℕ → List ℕ
 bytes zero v = v ∷ []
 bytes (suc n) v = v % 256 ∷ bytes n (v / 256)
 
--- a word
+-- the eight bytes of a word
 abbrev pub littleEndian : ℕ → List ℕ
 littleEndian v = bytes 7 v

@@ -1,7 +1,7 @@
 use native.Mathlib.Omega.{arith}
 use Prim.Native.Nat.{_+_, _*_, _/_}
-use lib.Bits.{bitAnd, and-le-r}
-use Rattle.decimal.proofs.FrontValue.{ones-bound, joins}
+use lib.Bits.{and-le-r}
+use Rattle.decimal.proofs.FrontValue.{twos, fours, ones-bound, joins}
 use Rattle.decimal.proofs.joined.Statement.{statement}
 use Rattle.decimal.proofs.joined.Tie as tie
 
@@ -18,17 +18,13 @@ add-fours : tie.Need-add-fours
 add-fours c = let y = c .args .ones in omega (arith, and-le-r (y * 10 + y / 256) 71777214294589695)
 
 mul-result : tie.Need-mul-result
-mul-result c = let y = c .args .ones in let t = bitAnd (y * 10 + y / 256) 71777214294589695 in omega (arith, and-le-r (t * 100 + t / 65536) 281470681808895)
+mul-result c = let t = twos (c .args .ones) in omega (arith, and-le-r (t * 100 + t / 65536) 281470681808895)
 
 add-result : tie.Need-add-result
-add-result c = let y = c .args .ones in let t = bitAnd (y * 10 + y / 256) 71777214294589695 in omega (arith, and-le-r (t * 100 + t / 65536) 281470681808895)
+add-result c = let t = twos (c .args .ones) in omega (arith, and-le-r (t * 100 + t / 65536) 281470681808895)
 
 cast-result : tie.Need-cast-result
-cast-result c =
-    let y = c .args .ones in
-    let t = bitAnd (y * 10 + y / 256) 71777214294589695 in
-    let u = bitAnd (t * 100 + t / 65536) 281470681808895 in
-    omega (arith, and-le-r (u * 10000 + u / 4294967296) 4294967295)
+cast-result c = let u = fours (twos (c .args .ones)) in omega (arith, and-le-r (u * 10000 + u / 4294967296) 4294967295)
 
 returns : tie.Need-returns
 returns c = joins (c .args .ones) (c .pre)
