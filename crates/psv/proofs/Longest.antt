@@ -102,11 +102,11 @@ within : {t : List ℕ} {most n : ℕ} → Measured t most n → length t ≤ mo
 within m = omega (arith, m .is, m .small)
 
 -- the parts of a line
-module _ (e : Element) (vs : List Val) (is : Is (struct.row element.the-type) e vs) where
-  between-le : length (betweenText e) ≤ 68
-  between-le = within (between-length e _ refl (prefix-le (e .prefix) (search needs)))
+pub between-le : (p : NetworkPrefix) → Fits w8 (p .len) → length (betweenText p) ≤ 68
+between-le p f = within (between-length p _ refl (prefix-le p f))
 
-  attributes-le : length (attributesText e) ≤ 108
+module _ (e : Element) (vs : List Val) (is : Is (struct.row element.the-type) e vs) where
+  pub attributes-le : length (attributesText e) ≤ 108
   attributes-le =
       within
       (attributes-length e _ _ _ _ (measured (origin-le (e .origin))) refl (address-le (e .«next_hop»)) (measured (search u32-le)) (measured (search u32-le)))
@@ -116,13 +116,13 @@ module _ (e : Element) (vs : List Val) (is : Is (struct.row element.the-type) e 
   tail-le false = within (display-tail-length e false _ refl (measured attributes-le))
 
   -- what stands behind the front, with so many numbers
-  rest-le : (psv : Bool) (ns : List ℕ) → ((i : ℕ) → Fits w32 (getD ns i 0)) → length (betweenText e ++ sequenceText ns ++ tailText psv e) ≤ 198 + 21 * length ns
-  rest-le psv ns f = simp length-append (omega (arith, between-le, sequence-le true ns f, tail-le psv))
+  rest-le : (psv : Bool) (ns : List ℕ) → ((i : ℕ) → Fits w32 (getD ns i 0)) → length (betweenText (e .prefix) ++ sequenceText ns ++ tailText psv e) ≤ 198 + 21 * length ns
+  rest-le psv ns f = simp length-append (omega (arith, between-le (e .prefix) (search needs), sequence-le true ns f, tail-le psv))
 
   pub rest-surely : (psv : Bool) (ns : List ℕ) (room : ℕ) (b : Bool) → ((i : ℕ) → Fits w32 (getD ns i 0)) → b ≡ leb (198 + 21 * length ns) room → b ≡ true
-      → true ≡ leb (length (betweenText e ++ sequenceText ns ++ tailText psv e)) room
+      → true ≡ leb (length (betweenText (e .prefix) ++ sequenceText ns ++ tailText psv e)) room
   rest-surely psv ns room b f k t =
-      sym (le-leb (length (betweenText e ++ sequenceText ns ++ tailText psv e)) room (omega (arith, rest-le psv ns f, leb-true (198 + 21 * length ns) room (sym k ∙ t))))
+      sym (le-leb (length (betweenText (e .prefix) ++ sequenceText ns ++ tailText psv e)) room (omega (arith, rest-le psv ns f, leb-true (198 + 21 * length ns) room (sym k ∙ t))))
 
 -- the front, written to 90 bytes
 module _ (announce : Bool) (t : Float) (ip : IpAddr) (number : Asn) (f : T (fits binary64 t)) (g : Fits w32 (number .0)) (places o : List ℕ) (n : ℕ)

@@ -18,6 +18,7 @@ use Rattle.decimal.specs.declared.U32Read.{U32Read}
 use Rattle.decimal.specs.declared.U32Read.the-variants as read
 use Rattle.network.specs.declared.Asn.{Asn}
 use Rattle.network.specs.declared.IpAddr.{IpAddr}
+use Rattle.network.specs.declared.NetworkPrefix.{NetworkPrefix}
 use Rattle.network_display.specs.Text.{addressText, prefixText}
 use Rattle.seconds.specs.Seconds.{secondOf, asSecond, timestampText}
 use Rattle.seconds.specs.declared.SecondRead.{SecondRead}
@@ -132,11 +133,11 @@ module _ (x : OptOrigin) where
     no-origin-written e = rw e (nothing out at)
 
 -- the parts of a line, measured
-module _ (e : Element) where
-  pub between-length : (q : ℕ) → q ≡ length (prefixText (e .prefix)) → q ≤ 66 → Measured (betweenText e) 68 (2 + q)
-  unfolding betweenText
-  between-length q h l = record { is = simp length-append (omega arith); small = omega arith }
+pub between-length : (p : NetworkPrefix) (q : ℕ) → q ≡ length (prefixText p) → q ≤ 66 → Measured (betweenText p) 68 (2 + q)
+unfolding betweenText
+between-length p q h l = record { is = simp length-append (omega arith); small = omega arith }
 
+module _ (e : Element) where
   pub attributes-length : (a b c d : ℕ) → Measured (originText (e .origin)) 10 a → b ≡ length (addressText (e .«next_hop»)) → b ≤ 45
       → Measured (numberText (e .«local_pref»)) 20 c → Measured (numberText (e .metric)) 20 d → Measured (attributesText e) 108 (13 + a + b + c + d)
   unfolding attributesText preferenceText hopText
@@ -164,12 +165,12 @@ module _ (announce : Bool) (t : Float) (out : List ℕ) (at : ℕ) where
   unfolding frontText
   front-written ip n o₁ o₂ o₃ o a b c r w₁ w₂ w₃ w₄ = then (then (then w₁ w₂) w₃) w₄
 
-module _ (e : Element) (out : List ℕ) (at : ℕ) where
-  pub between-written : (o₁ o₂ o : List ℕ) (a b r : ℕ) → Written bar out at o₁ a → Written (prefixText (e .prefix)) o₁ a o₂ b → Written bar o₂ b o r
-      → Written (betweenText e) out at o r
-  unfolding betweenText
-  between-written o₁ o₂ o a b r w₁ w₂ w₃ = then (then w₁ w₂) w₃
+pub between-written : (p : NetworkPrefix) (out : List ℕ) (at : ℕ) (o₁ o₂ o : List ℕ) (a b r : ℕ) → Written bar out at o₁ a → Written (prefixText p) o₁ a o₂ b
+    → Written bar o₂ b o r → Written (betweenText p) out at o r
+unfolding betweenText
+between-written p out at o₁ o₂ o a b r w₁ w₂ w₃ = then (then w₁ w₂) w₃
 
+module _ (e : Element) (out : List ℕ) (at : ℕ) where
   pub hop-written : (o₁ o₂ o₃ o : List ℕ) (a b c r : ℕ) → Written bar out at o₁ a → Written (originText (e .origin)) o₁ a o₂ b → Written bar o₂ b o₃ c
       → Written (addressText (e .«next_hop»)) o₃ c o r → Written (hopText e) out at o r
   unfolding hopText
@@ -224,11 +225,11 @@ module _ (x : Bool) (first : Bool) (s : List ℕ) (i left : ℕ) (known : x ≡ 
 -- what stands behind the front, compared with the room by its parts
 module _ (psv : Bool) (e : Element) (ns : List ℕ) (room : ℕ) where
   abbrev rest : List ℕ
-  rest = betweenText e ++ sequenceText ns ++ tailText psv e
+  rest = betweenText (e .prefix) ++ sequenceText ns ++ tailText psv e
 
   module _ (q k : ℕ) (u : q ≡ length (prefixText (e .prefix))) (i : q ≤ 66) (v : Measured (tailText psv e) 130 k) where
     rest-length : length rest ≡ 2 + q + k + length (sequenceText ns)
-    rest-length = simp length-append (omega (arith, between-length e q u i .is, v .is))
+    rest-length = simp length-append (omega (arith, between-length (e .prefix) q u i .is, v .is))
 
     pub rest-none : room < 2 + q + k → false ≡ leb (length rest) room
     rest-none l = sym (lt-leb (length rest) room (omega (arith, rest-length)))
@@ -271,7 +272,7 @@ pub slice-within : (e : Element) (asns : List ℕ) (r : Bool) → r ≡ spoilt e
 slice-within e asns r h k = count-within e asns (sym h ∙ k)
 
 module _ (psv : Bool) (begin : List ℕ) (e : Element) (asns out : List ℕ) (r b : Bool) (told : r ≡ spoilt e asns) (sound : r ≡ false)
-    (fits : b ≡ leb (length begin + length (betweenText e ++ sequenceText (numbers e asns) ++ tailText psv e)) (length out)) where
+    (fits : b ≡ leb (length begin + length (betweenText (e .prefix) ++ sequenceText (numbers e asns) ++ tailText psv e)) (length out)) where
   abbrev text : List ℕ
   text = begin ++ restText psv e asns
 
@@ -285,7 +286,7 @@ module _ (psv : Bool) (begin : List ℕ) (e : Element) (asns out : List ℕ) (r 
       let n : leb (length text) (length out) ≡ false = sym fits-text ∙ f in
       record { told = rw z (simp n); left = rw z (kept text out (length text) refl (leb-false (length text) (length out) n)) }
 
-  pub put-written : b ≡ true → (o₁ o₂ o₃ o : List ℕ) (a c d g : ℕ) → Written begin out 0 o₁ a → Written (betweenText e) o₁ a o₂ c
+  pub put-written : b ≡ true → (o₁ o₂ o₃ o : List ℕ) (a c d g : ℕ) → Written begin out 0 o₁ a → Written (betweenText (e .prefix)) o₁ a o₂ c
       → Written (sequenceText (numbers e asns)) o₂ c o₃ d → Written (tailText psv e) o₃ d o g → Printed (spoilt e asns) text out (Wrote g) o
   unfolding restText
   put-written f o₁ o₂ o₃ o a c d g w₁ w₂ w₃ w₄ =

@@ -14,6 +14,7 @@ use Rattle.decimal.specs.declared.U32Read.{U32Read}
 use Rattle.decimal.specs.declared.U32Read.the-variants as read
 use Rattle.network.specs.declared.Asn.{Asn}
 use Rattle.network.specs.declared.IpAddr.{IpAddr}
+use Rattle.network.specs.declared.NetworkPrefix.{NetworkPrefix}
 use Rattle.network_display.specs.Text.{addressText, prefixText}
 use Rattle.seconds.specs.Seconds.{secondOf, timestampText}
 use Rattle.aspath_display.specs.Display.{separated}
@@ -92,8 +93,9 @@ frontText announce t ip number = startText announce t ++ addressText ip ++ bar +
 abbrev pub peerText : Element → List ℕ
 peerText e = frontText (e .announce) (e .timestamp) (e .«peer_ip») (e .«peer_asn»)
 
-unfoldable pub betweenText : Element → List ℕ
-betweenText e = bar ++ prefixText (e .prefix) ++ bar
+-- the prefix's field, with the bars around it
+unfoldable pub betweenText : NetworkPrefix → List ℕ
+betweenText p = bar ++ prefixText p ++ bar
 
 unfoldable pub hopText : Element → List ℕ
 hopText e = bar ++ originText (e .origin) ++ bar ++ addressText (e .«next_hop»)
@@ -109,10 +111,14 @@ tailText psv e = cond psv (bar ++ asnText (e .«origin_asn») ++ attributesText 
 
 -- what stands behind the front
 unfoldable pub restText : Bool → Element → List ℕ → List ℕ
-restText psv e asns = betweenText e ++ sequenceText (numbers e asns) ++ tailText psv e
+restText psv e asns = betweenText (e .prefix) ++ sequenceText (numbers e asns) ++ tailText psv e
 
 abbrev pub lineText : Bool → Element → List ℕ → List ℕ
 lineText psv e asns = peerText e ++ restText psv e asns
+
+-- a line whose texts are at hand: all up to the path, the path, and the origin AS; of the element only the fields behind them
+unfoldable pub textsLine : List ℕ → List ℕ → List ℕ → Element → List ℕ
+textsLine begin path asn e = begin ++ path ++ bar ++ asn ++ attributesText e ++ bar
 
 -- what a call that prints a text of the element answers and leaves: 01's order, 8, then 9 with the output as it was
 pub record Printed (spoilt : Bool) (text out : List ℕ) (r : ElementPut) (new : List ℕ) : Type 0 where

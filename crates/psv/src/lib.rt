@@ -9,7 +9,7 @@ ghost use Rattle.output.specs.Output.{Written, front, answer};
 ghost use Rattle.seconds.specs.Seconds.{secondOf};
 ghost use Rattle.aspath_display.specs.Display.{Measured};
 ghost use Rattle.elem.specs.Element.{spoilt};
-ghost use Rattle.psv.specs.Line.{headerText, typeText, timeText, sequenceText, asnText, originText, numberText, psvText, displayText, startText, frontText, betweenText, hopText, preferenceText, attributesText, tailText, restText, lineText, Printed};
+ghost use Rattle.psv.specs.Line.{headerText, typeText, timeText, sequenceText, asnText, originText, numberText, psvText, displayText, startText, frontText, betweenText, hopText, preferenceText, attributesText, tailText, restText, lineText, textsLine, Printed};
 use decimal::U32Read;
 use elem::Element;
 use elem::OptAsn;
@@ -17,6 +17,7 @@ use elem::OptOrigin;
 use elem::Origin;
 use network::Asn;
 use network::IpAddr;
+use network::NetworkPrefix;
 use output::Put;
 use seconds::SecondRead;
 
@@ -72,13 +73,13 @@ fn write_front(
     decimal_display::write_u32(peer_asn.0, out, c)
 }
 
-fn write_prefix(e: Element, out: &mut [u8], at: usize) -> usize
-    ensures { λ r. ⌜ Written (betweenText e) (now (out .entry)) at (now (out .exit)) r ⌝ }
+// The field of the prefix, with the bars around it: at most 68 bytes.
+pub fn write_between(prefix: NetworkPrefix, out: &mut [u8], at: usize) -> usize
+    ensures { λ r. ⌜ Written (betweenText prefix) (now (out .entry)) at (now (out .exit)) r ⌝ }
 {
-    let prefix = e.prefix;
     let a = output::write_byte(b'|', out, at);
-    let b = network_display::write_prefix(prefix, out, a);
-    output::write_byte(b'|', out, b)
+    let end = network_display::write_prefix(prefix, out, a);
+    output::write_byte(b'|', out, end)
 }
 
 // The path, one sequence.
@@ -245,7 +246,7 @@ fn surely_fits(count: usize, room: usize) -> bool
 
 // Measured only where it is not sure: to measure an address is to write it.
 fn rest_fits(psv: bool, e: Element, numbers: &[u32], room: usize) -> bool
-    ensures { λ r. ⌜ r ≡ leb (length (betweenText e ++ sequenceText (now (numbers .entry)) ++ tailText psv e)) room ⌝ }
+    ensures { λ r. ⌜ r ≡ leb (length (betweenText (e .prefix) ++ sequenceText (now (numbers .entry)) ++ tailText psv e)) room ⌝ }
 {
     if surely_fits(numbers.len(), room) {
         return true;
@@ -260,7 +261,7 @@ fn rest_fits(psv: bool, e: Element, numbers: &[u32], room: usize) -> bool
 
 // The same behind a front so long.
 fn line_fits(psv: bool, front_len: usize, e: Element, numbers: &[u32], room: usize) -> bool
-    ensures { λ r. ⌜ r ≡ leb («front_len» + length (betweenText e ++ sequenceText (now (numbers .entry)) ++ tailText psv e)) room ⌝ }
+    ensures { λ r. ⌜ r ≡ leb («front_len» + length (betweenText (e .prefix) ++ sequenceText (now (numbers .entry)) ++ tailText psv e)) room ⌝ }
 {
     if room < front_len {
         return false;
@@ -277,9 +278,10 @@ fn put_behind(psv: bool, front: &[u8], e: Element, asns: &[u32], out: &mut [u8])
     }
     let count = e.count;
     let numbers = &asns[..count];
+    let prefix = e.prefix;
     if line_fits(psv, front.len(), e, numbers, out.len()) {
         let a = output::write_bytes(front, out, 0);
-        let b = write_prefix(e, out, a);
+        let b = write_between(prefix, out, a);
         let c = aspath_display::write_numbers(numbers, b' ', out, b);
         return ElementPut::Wrote(write_tail(psv, e, out, c));
     }
@@ -328,6 +330,57 @@ pub fn to_psv_behind(front: &[u8], e: Element, asns: &[u32], out: &mut [u8]) -> 
     ensures { λ r. ⌜ Printed (spoilt e (now (asns .entry))) (now (front .entry) ++ restText true e (now (asns .entry))) (now (out .entry)) r (now (out .exit)) ⌝ }
 {
     put_behind(true, front, e, asns, out)
+}
+
+// The line of texts that are at hand.
+
+// Whether texts of four lengths have room; they may be too large to add up.
+fn four_fit(a: usize, b: usize, c: usize, d: usize, room: usize) -> bool
+    ensures { λ r. ⌜ r ≡ leb (a + b + c + d) room ⌝ }
+{
+    if room < a {
+        return false;
+    }
+    if room - a < b {
+        return false;
+    }
+    if room - a - b < c {
+        return false;
+    }
+    d <= room - a - b - c
+}
+
+// Beside the three texts stand two bars and the attributes, 110 bytes at most; measured only where it is not sure.
+fn texts_fit(begin_len: usize, path_len: usize, asn_len: usize, e: Element, room: usize) -> bool
+    ensures { λ r. ⌜ r ≡ leb (2 + length (attributesText e) + «begin_len» + «path_len» + «asn_len») room ⌝ }
+{
+    if four_fit(110, begin_len, path_len, asn_len, room) {
+        return true;
+    }
+    let beside = 2 + attributes_len(e);
+    four_fit(beside, begin_len, path_len, asn_len, room)
+}
+
+fn write_texts(begin: &[u8], path: &[u8], origin_asn: &[u8], e: Element, out: &mut [u8]) -> usize
+    ensures { λ r. ⌜ Written (textsLine (now (begin .entry)) (now (path .entry)) (now («origin_asn» .entry)) e) (now (out .entry)) 0 (now (out .exit)) r ⌝ }
+{
+    let a = output::write_bytes(begin, out, 0);
+    let b = output::write_bytes(path, out, a);
+    let c = output::write_byte(b'|', out, b);
+    let d = output::write_bytes(origin_asn, out, c);
+    let f = write_attributes(e, out, d);
+    output::write_byte(b'|', out, f)
+}
+
+// to_psv's line of texts that are not looked at: what stands before the path, the path and the origin AS. Of the element only its origin, next hop,
+// preference and metric are printed.
+pub fn put_texts(begin: &[u8], path: &[u8], origin_asn: &[u8], e: Element, out: &mut [u8]) -> Put
+    ensures { λ r. ⌜ (r ≡ answer (textsLine (now (begin .entry)) (now (path .entry)) (now («origin_asn» .entry)) e) (now (out .entry))) × (now (out .exit) ≡ front (textsLine (now (begin .entry)) (now (path .entry)) (now («origin_asn» .entry)) e) (now (out .entry))) ⌝ }
+{
+    if texts_fit(begin.len(), path.len(), origin_asn.len(), e, out.len()) {
+        return Put::Wrote(write_texts(begin, path, origin_asn, e, out));
+    }
+    Put::TooShort
 }
 
 // Display of the element.

@@ -23,8 +23,8 @@ line-fits-requires c κs = search (laws, needs)
 write-bytes-requires : tie.Need-write-bytes-requires
 write-bytes-requires c κs = search (laws, needs)
 
-write-prefix-requires : tie.Need-write-prefix-requires
-write-prefix-requires c κs = search (laws, needs)
+write-between-requires : tie.Need-write-between-requires
+write-between-requires c κs = search (laws, needs)
 
 write-numbers-requires : tie.Need-write-numbers-requires
 write-numbers-requires c κs = search (laws, needs)
@@ -50,7 +50,7 @@ put-behind-spec =
     slice-aggregate-numbers
     line-fits-requires
     write-bytes-requires
-    write-prefix-requires
+    write-between-requires
     write-numbers-requires
     write-tail-requires
     same-length

@@ -1,7 +1,7 @@
 use Rattle.psv.proofs.Printing.{between-written}
 use borrow.Author.Needs.{needs}
-use Rattle.psv.proofs.write_prefix.Statement.{statement}
-use Rattle.psv.proofs.write_prefix.Tie as tie
+use Rattle.psv.proofs.write_between.Statement.{statement}
+use Rattle.psv.proofs.write_between.Tie as tie
 
 ruleset laws = (between-written)
 
@@ -20,7 +20,7 @@ same-length c = search needs
 returns : tie.Need-returns
 returns c = search (laws, needs)
 
-pub write-prefix-spec : {M : Type 1} → statement M
-write-prefix-spec =
+pub write-between-spec : {M : Type 1} → statement M
+write-between-spec =
     tie.close
     (tie.spec write-byte-requires write-prefix-requires write-byte-requires-2 same-length returns)

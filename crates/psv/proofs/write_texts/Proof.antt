@@ -1,0 +1,43 @@
+use Rattle.psv.proofs.Copied.{texts-written}
+use borrow.Author.Needs.{needs}
+use Rattle.psv.proofs.write_texts.Statement.{statement}
+use Rattle.psv.proofs.write_texts.Tie as tie
+
+ruleset laws = (texts-written)
+
+write-bytes-requires : tie.Need-write-bytes-requires
+write-bytes-requires c κs = search needs
+
+write-bytes-requires-2 : tie.Need-write-bytes-requires-2
+write-bytes-requires-2 c κs = search needs
+
+write-byte-requires : tie.Need-write-byte-requires
+write-byte-requires c κs = search needs
+
+write-bytes-requires-3 : tie.Need-write-bytes-requires-3
+write-bytes-requires-3 c κs = search needs
+
+write-attributes-requires : tie.Need-write-attributes-requires
+write-attributes-requires c κs = search needs
+
+write-byte-requires-2 : tie.Need-write-byte-requires-2
+write-byte-requires-2 c κs = search needs
+
+same-length : tie.Need-same-length
+same-length c = search needs
+
+returns : tie.Need-returns
+returns c = search laws
+
+pub write-texts-spec : {M : Type 1} → statement M
+write-texts-spec =
+    tie.close
+    (tie.spec
+    write-bytes-requires
+    write-bytes-requires-2
+    write-byte-requires
+    write-bytes-requires-3
+    write-attributes-requires
+    write-byte-requires-2
+    same-length
+    returns)
