@@ -32,9 +32,9 @@ pub struct Element {
     pub next_hop: IpAddr,
     pub count: usize,
     pub origin_asn: OptAsn,
-    pub origin: OptOrigin,
     pub local_pref: U32Read,
     pub metric: U32Read,
+    pub origin: OptOrigin,
 }
 
 pub fn is_spoilt_element(e: Element, asns: &[u32]) -> bool

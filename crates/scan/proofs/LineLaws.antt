@@ -2,7 +2,7 @@
 use Prim.Native.Nat.{ℕ, _+_, _-_, _≤_, _<_, min}
 use mathlib.Core.Path.{_≡_, refl, sym, ap, _∙_}
 use mathlib.Core.Bool.{Bool, true, false, cond, not, _||_}
-use mathlib.Core.List.{List, [], _∷_, _++_, map, flatten, headD, append-nil, append-assoc, nil≢cons, tail-eq-of-cons-eq}
+use mathlib.Core.List.{List, [], _∷_, _++_, map, flatten, headD, append-nil, append-assoc, nil≢cons, head-eq-of-cons-eq, tail-eq-of-cons-eq}
 use native.Mathlib.Omega.{arith}
 use lib.ListN.{length, getD, take, drop, length-append, length-take, length-drop, take-append-drop, drop-of-length-le}
 use lib.Seq.{take-at, drop-drop}
@@ -155,3 +155,21 @@ lines-last (x ∷ a) s b e = lines-last a (drop (length (first s)) s) b (tail-eq
     some : (s : List ℕ) → lines s ≡ x ∷ (a ++ b) → 0 < length s
     some [] e = absurd (nil≢cons e)
     some (y ∷ s) e = omega arith
+
+-- a line is one line by itself
+pub line-alone : (t l : List ℕ) (ls : List (List ℕ)) → lines t ≡ l ∷ ls → lines l ≡ l ∷ []
+unfolding lines onto
+line-alone [] l ls e = absurd (nil≢cons e)
+line-alone (b ∷ s) l ls e = go (isFeed b) refl (lines s) (line-alone s) e
+  where
+    short : (z : Bool) → cond z ((b ∷ []) ∷ []) (onto b []) ≡ (b ∷ []) ∷ []
+    short true = refl
+    short false = refl
+
+    go : (z : Bool) → isFeed b ≡ z → (r : List (List ℕ)) → ((w : List ℕ) (k : List (List ℕ)) → r ≡ w ∷ k → lines w ≡ w ∷ []) → cond z ((b ∷ []) ∷ r) (onto b r) ≡ l ∷ ls → lines l ≡ l ∷ []
+    go true f r ih e = rw (← head-eq-of-cons-eq e) (short (isFeed b))
+    go false f [] ih e = rw (← head-eq-of-cons-eq e) (short (isFeed b))
+    go false f (w ∷ k) ih e = rw (← head-eq-of-cons-eq e) (rw (f, ih w k refl))
+
+pub lineEnd-alone : (t : List ℕ) (i e : ℕ) → i < length t → e ≡ lineEnd t i → lines (take (e - i) (drop i t)) ≡ take (e - i) (drop i t) ∷ []
+lineEnd-alone t i e h q = line-alone (drop i t) (take (e - i) (drop i t)) (lines (drop e t)) (rw q (line-at t i h))

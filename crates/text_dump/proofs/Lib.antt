@@ -3,3 +3,4 @@ pub mod RulesLaws
 pub mod OpenLaws
 pub mod NextLaws
 pub mod Demand3
+pub mod LineLaws

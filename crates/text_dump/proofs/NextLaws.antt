@@ -106,7 +106,7 @@ module _ (σ : State) (t : List ℕ) where
               go k false s = loop.short (rules σ) t (cursor σ) k i e (plain m) inside here (textOf x) (r, asns) is-route p 7 brings (rw s) b ∙ rw s
 
 -- a refusal leaves the state as it was
-stays : (σ : State) (n : ℕ) → stepped σ (refused n, cursor σ) ≡ (refused n, σ)
+pub stays : (σ : State) (n : ℕ) → stepped σ (refused n, cursor σ) ≡ (refused n, σ)
 stays σ n = ap (λ (s : State). (refused n, s)) (moved-cursor σ)
 
 -- a route under a valid prefix

@@ -5,6 +5,7 @@ use mathlib.Core.Bool.{Bool, true, false, not, _||_, true≢false}
 use mathlib.Core.List.{List, [], _∷_}
 use native.Mathlib.Omega.{arith}
 use lib.ListN.{length, take, getD}
+use lib.Seq.{take-all, take-length}
 use lib.Dec.{ltb}
 use borrow.Author.Tests.{ltb-false}
 use Rattle.columns.specs.Columns.{areRising}
@@ -63,7 +64,7 @@ unfolding spoilt
 is-spoilt σ n c t v ec et ev = rw (ec, et, ev)
 
 -- of a state that is not spoilt: the position lies in the part
-first : (a b : Bool) → (a || b) ≡ false → a ≡ false
+pub first : (a b : Bool) → (a || b) ≡ false → a ≡ false
 first true b h = absurd (true≢false h)
 first false b h = refl
 
@@ -92,3 +93,14 @@ last-origin asns n h g =
     let i : n - 1 < length asns = omega arith in
     let z : suc (n - 1) ≡ n = omega arith in
     origin-at asns (n - 1) i ∙ ap (λ (k : ℕ). originAsn (take k asns)) z
+
+-- beyond the list
+module _ (asns : List ℕ) (n : ℕ) (beyond : length asns < n) where
+  all-taken : take (length asns) asns ≡ take n asns
+  all-taken = take-length asns ∙ sym (take-all n asns (omega arith))
+
+  pub no-numbers : length asns ≡ 0 → NoAsn ≡ originAsn (take n asns)
+  no-numbers h = no-origin asns (length asns) h ∙ ap originAsn all-taken
+
+  pub last-of-all : (length asns ≡ 0 → ⊥) → Known (record { 0 = getD asns (length asns - 1) 0 }) ≡ originAsn (take n asns)
+  last-of-all h = last-origin asns (length asns) h (omega arith) ∙ ap originAsn all-taken

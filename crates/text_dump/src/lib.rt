@@ -93,7 +93,7 @@ fn is_valid_remembered(m: Remembered) -> bool
 }
 
 // What is remembered behind a route: any prefix text but a blank one replaces it.
-fn replaced(text: PrefixText, m: Remembered) -> Remembered
+pub fn replaced(text: PrefixText, m: Remembered) -> Remembered
     ensures { λ r. ⌜ plain r ≡ replace (textOf text) (plain m) ⌝ }
 {
     match text {
@@ -103,18 +103,24 @@ fn replaced(text: PrefixText, m: Remembered) -> Remembered
     }
 }
 
-fn origin_asn(asns: &[u32], count: usize) -> OptAsn
-    requires { ⌜ count ≤ length (now asns) ⌝ }
+// The last of the first `count` numbers; of all of them where there are fewer.
+pub fn origin_asn(asns: &[u32], count: usize) -> OptAsn
     ensures { λ r. ⌜ r ≡ originAsn (take count (now (asns .entry))) ⌝ }
 {
     if count == 0 {
         return OptAsn::Nothing;
     }
-    OptAsn::Known(Asn(asns[count - 1]))
+    if count <= asns.len() {
+        return OptAsn::Known(Asn(asns[count - 1]));
+    }
+    if asns.len() == 0 {
+        return OptAsn::Nothing;
+    }
+    OptAsn::Known(Asn(asns[asns.len() - 1]))
 }
 
 impl State {
-    fn is_spoilt(self, part_len: usize) -> bool
+    pub fn is_spoilt(self, part_len: usize) -> bool
         ensures { λ r. ⌜ r ≡ spoilt self «part_len» ⌝ }
     {
         let columns = self.columns;
@@ -126,7 +132,7 @@ impl State {
             | !is_valid_remembered(remembered)
     }
 
-    fn moved(self, position: usize, remembered: Remembered) -> State
+    pub fn moved(self, position: usize, remembered: Remembered) -> State
         ensures { λ r. ⌜ r ≡ moved self (record { at = position; remembered = plain remembered }) ⌝ }
     {
         let columns = self.columns;
@@ -143,7 +149,7 @@ impl State {
         }
     }
 
-    fn element(
+    pub fn element(
         self,
         prefix: NetworkPrefix,
         entry: RouteEntry,

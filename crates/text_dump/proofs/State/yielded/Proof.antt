@@ -1,6 +1,5 @@
 use borrow.Author.Needs.{needs}
 use Rattle.text_dump.proofs.NextLaws.{refuses-7, yields}
-use Rattle.path_text.proofs.PathLaws.{told-inside}
 use Rattle.text_dump.proofs.State.yielded.Statement.{statement}
 use Rattle.text_dump.proofs.State.yielded.Tie as tie
 
@@ -25,7 +24,7 @@ returns : tie.Need-returns
 returns c = search (laws, needs)
 
 origin-asn-requires : tie.Need-origin-asn-requires
-origin-asn-requires c κs = told-inside _ _ _ _ (c .before .before .before .before .before .before .put-asns .ensures) _ (search needs)
+origin-asn-requires c κs = search needs
 
 element-requires : tie.Need-element-requires
 element-requires c κs = search needs
