@@ -5,7 +5,9 @@ use mathlib.Core.Bool.{true}
 use mathlib.Core.List.{List, [], _∷_, _++_, map, map-append, append-nil}
 use mathlib.Core.Option.{some}
 use native.Mathlib.Omega.{arith}
-use lib.Bits.{bitAnd, bitXor}
+use mir.Syntax.{w32, w64}
+use mir.Val.{Fits}
+use lib.Bits.{bitAnd, bitXor, and-le-r}
 use lib.ListN.{length, getD, take, drop, replicate, length-append, length-replicate, length-map, take-append-drop}
 use lib.Seq.{take-at}
 use lib.Dec.{eqb}
@@ -23,13 +25,13 @@ abbrev pub Small : List ℕ → Type 0
 Small s = (i : ℕ) → getD s i 0 < 10
 
 -- the code's joins: of digits to twos, of those to fours, and of those
-abbrev pub twos : ℕ → ℕ
+abbrev twos : ℕ → ℕ
 twos y = bitAnd (y * 10 + y / 256) 71777214294589695
 
-abbrev pub fours : ℕ → ℕ
+abbrev fours : ℕ → ℕ
 fours t = bitAnd (t * 100 + t / 65536) 281470681808895
 
-abbrev pub eights : ℕ → ℕ
+abbrev eights : ℕ → ℕ
 eights u = bitAnd (u * 10000 + u / 4294967296) 4294967295
 
 -- each pair is joined by itself
@@ -62,6 +64,22 @@ small-bound (b ∷ s) h = omega (arith, h 0, small-bound s (λ i. h (suc i)))
 pub ones-bound : (y : ℕ) → Small (littleEndian y) → y ≤ 651061555542690057
 unfolding bytes same
 ones-bound y h = rw number-back at (small-bound (littleEndian y) h)
+
+-- what comes out of a mask is small, whatever goes in
+pub twos-product : (x : ℕ) → Fits w64 (bitAnd x 71777214294589695 * 100)
+twos-product x = record { fits = omega (arith, and-le-r x 71777214294589695) }
+
+pub twos-sum : (x : ℕ) → Fits w64 (bitAnd x 71777214294589695 * 100 + bitAnd x 71777214294589695 / 65536)
+twos-sum x = record { fits = omega (arith, and-le-r x 71777214294589695) }
+
+pub fours-product : (x : ℕ) → Fits w64 (bitAnd x 281470681808895 * 10000)
+fours-product x = record { fits = omega (arith, and-le-r x 281470681808895) }
+
+pub fours-sum : (x : ℕ) → Fits w64 (bitAnd x 281470681808895 * 10000 + bitAnd x 281470681808895 / 4294967296)
+fours-sum x = record { fits = omega (arith, and-le-r x 281470681808895) }
+
+pub eights-fit : (x : ℕ) → Fits w32 (bitAnd x 4294967295)
+eights-fit x = record { fits = omega (arith, and-le-r x 4294967295) }
 
 -- a digit without the bits of '0' is its number
 abbrev bare : ℕ → ℕ

@@ -75,7 +75,7 @@ unfolding lone
 lone-here s i h l = rw (drop-cons s i 0 h, drop-of-length-le s {i = suc i} (omega arith)) (no-digit (getD s i 0))
 
 -- digits, and a space behind them, in the eight bytes from a place on
-module _ (s : List ℕ) (at w : ℕ) (r : FirstDigits) (bytes : Bytes s) (q : w ≡ number (take 8 (drop at s))) (f : r ≡ firstDigits w) (few : r .count ≤ 7) (space : w / 2 ^ (8 * r .count) % 256 ≡ 32) where
+module _ (s : List ℕ) (at w : ℕ) (r : FirstDigits) (bytes : Bytes s) (q : w ≡ number (take 8 (drop at s))) (f : r ≡ firstDigits w) (few : r .count ≤ 7) where
   front : List ℕ
   front = leading (take 8 (drop at s))
 
@@ -94,34 +94,35 @@ module _ (s : List ℕ) (at w : ℕ) (r : FirstDigits) (bytes : Bytes s) (q : w 
   unfolding firstDigits front
   made = leading-value 0 (take 8 (drop at s)) ∙ ap some (sym (ap (λ x. x .value) f ∙ ap (λ d. orZero (behind 0 d)) read))
 
-  behind-it : getD s (at + r .count) 0 ≡ 32
+  behind-it : w / 2 ^ (8 * r .count) % 256 ≡ getD s (at + r .count) 0
   behind-it =
-      sym (getD-drop at s (r .count) 0) ∙ sym (getD-take 8 (drop at s) (r .count) 0 (omega arith))
-      ∙ sym (byte-at (r .count) (take 8 (drop at s)) inside) ∙ ap (λ x. x / 2 ^ (8 * r .count) % 256) (sym q) ∙ space
+      ap (λ x. x / 2 ^ (8 * r .count) % 256) q ∙ byte-at (r .count) (take 8 (drop at s)) inside
+      ∙ getD-take 8 (drop at s) (r .count) 0 (omega arith) ∙ getD-drop at s (r .count) 0
 
-  pub plain-inside : at + r .count < length s
-  plain-inside = go (leb (length s) (at + r .count)) refl
+  -- a byte that is not 0 is one of the text
+  pub plain-inside : (w / 2 ^ (8 * r .count) % 256 ≡ 0 → ⊥) → at + r .count < length s
+  plain-inside some-byte = go (leb (length s) (at + r .count)) refl
     where
       go : (z : Bool) → leb (length s) (at + r .count) ≡ z → at + r .count < length s
-      go true h = absurd (omega (arith, behind-it, List·getD-eq-default s 0 {n = at + r .count} (leb-true (length s) (at + r .count) h)))
+      go true h = absurd (some-byte (behind-it ∙ List·getD-eq-default s 0 (leb-true (length s) (at + r .count) h)))
       go false h = leb-false (length s) (at + r .count) h
 
-  whole : drop at s ≡ front ++ (32 ∷ drop (at + r .count + 1) s)
+  whole : w / 2 ^ (8 * r .count) % 256 ≡ 32 → drop at s ≡ front ++ (32 ∷ drop (at + r .count + 1) s)
   unfolding front
-  whole =
+  whole space =
       let n = r .count in
       let k : suc (at + n) ≡ at + n + 1 = omega arith in
       let d : take n (drop at s) ≡ front = sym (take-take n 8 (drop at s) (omega arith)) ∙ ap (λ m. take m (take 8 (drop at s))) size ∙ leading-front (take 8 (drop at s)) in
       sym (take-append-drop n (drop at s)) ∙ ap (λ l. l ++ drop n (drop at s)) d
-      ∙ ap (λ l. front ++ l) (drop-drop n at s ∙ rw (drop-cons s (at + n) 0 plain-inside, behind-it, k))
+      ∙ ap (λ l. front ++ l) (drop-drop n at s ∙ rw (drop-cons s (at + n) 0 (plain-inside (λ z. omega arith)), ← behind-it, space, k))
 
-  pub plain-found : (r .count ≡ 0 → ⊥) → Takes s at (r .value) (at + r .count + 1)
+  pub plain-found : (r .count ≡ 0 → ⊥) → w / 2 ^ (8 * r .count) % 256 ≡ 32 → Takes s at (r .value) (at + r .count + 1)
   unfolding numbers
-  plain-found some-count =
+  plain-found some-count space =
       let v = r .value in
       let rest = drop (at + r .count + 1) s in
       let some-digit : digits front ≡ some v = start front (λ z. some-count (size ∙ z)) ∙ made in
-      let cut : tokens (drop at s) ≡ front ∷ tokens rest = ap tokens whole ∙ parted front rest ∙ ap (λ x. x ++ tokens rest) (digits-token v front some-digit) in
+      let cut : tokens (drop at s) ≡ front ∷ tokens rest = ap tokens (whole space) ∙ parted front rest ∙ ap (λ x. x ++ tokens rest) (digits-token v front some-digit) in
       let low : 10 ^ length front ≤ 10 ^ 7 = pow-le-pow-right (omega arith) {j = 7} (omega (arith, size)) in
       let reads : readU32 front ≡ Number v = rw (unsigned-digits v front some-digit, lt-ltb v (2 ^ 32) (omega (arith, digits-bound v front some-digit))) in
-      (record { later = omega arith; inside = omega (arith, plain-inside) }, rw (cut, reads))
+      (record { later = omega arith; inside = omega (arith, plain-inside (λ z. omega arith)) }, rw (cut, reads))

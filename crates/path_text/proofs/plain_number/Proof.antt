@@ -1,6 +1,4 @@
-use Prim.Native.Nat.{_+_, _<_}
 use native.Mathlib.Omega.{arith}
-use lib.ListN.{length}
 use Rattle.path_text.proofs.PlainLaws.{plain-inside, plain-found}
 use borrow.Author.Needs.{needs}
 use Rattle.path_text.proofs.plain_number.Statement.{statement}
@@ -30,16 +28,18 @@ returns-3 c = search needs
 add-t10 : tie.Need-add-t10
 add-t10 c =
     let a = c .before .before .before .before .before .before .before .before .before .args in
-    let d = c .before .before .before .before .before .before .first-digits .result in
-    let inside : a .at + d .count < length (a .part .now) = search (plain-inside, c .before .before .before .before .before .before .before .before .shared-slice-known .given, needs) in
-    omega arith
+    let w = c .before .before .before .before .before .before .before .word-at in
+    let d = c .before .before .before .before .before .before .first-digits in
+    let bytes = c .before .before .before .before .before .before .before .before .shared-slice-known .given in
+    omega (arith, plain-inside (a .part .now) (a .at) (w .result) (d .result) bytes (w .ensures) (d .ensures) (omega arith) (λ z. omega arith))
 
 add-t11 : tie.Need-add-t11
 add-t11 c =
     let a = c .before .before .before .before .before .before .before .before .before .args in
-    let d = c .before .before .before .before .before .before .first-digits .result in
-    let inside : a .at + d .count < length (a .part .now) = search (plain-inside, c .before .before .before .before .before .before .before .before .shared-slice-known .given, needs) in
-    omega arith
+    let w = c .before .before .before .before .before .before .before .word-at in
+    let d = c .before .before .before .before .before .before .first-digits in
+    let bytes = c .before .before .before .before .before .before .before .before .shared-slice-known .given in
+    omega (arith, plain-inside (a .part .now) (a .at) (w .result) (d .result) bytes (w .ensures) (d .ensures) (omega arith) (λ z. omega arith))
 
 returns-4 : tie.Need-returns-4
 returns-4 c = search (plain-found, c .before .before .before .before .before .before .before .before .shared-slice-known .given, needs)

@@ -33,7 +33,9 @@ mul-w c =
     omega (arith, few-fits (c .before .before .before .args .s .now) (k .i) (k .w) (k .inv .2) (omega arith) (k .inv .1) (c .shared-slice-known .given) (omega arith))
 
 add-w : tie.Need-add-w Inv-loop μ-loop
-add-w c = let k = c .before .before .loop in few-fits (c .before .before .before .args .s .now) (k .i) (k .w) (k .inv .2) (omega arith) (k .inv .1) (c .shared-slice-known .given) (omega arith)
+add-w c =
+    let k = c .before .before .loop in
+    omega (arith, few-fits (c .before .before .before .args .s .now) (k .i) (k .w) (k .inv .2) (omega arith) (k .inv .1) (c .shared-slice-known .given) (omega arith))
 
 loop-less : tie.Need-loop-less Inv-loop μ-loop
 loop-less c = search needs

@@ -6,7 +6,7 @@ use Rattle.word.proofs.word_at.Statement.{statement}
 use Rattle.word.proofs.word_at.Tie as tie
 
 returns : tie.Need-returns
-returns c = search (past, needs)
+returns c = let a = c .before .before .args in past (a .s .now) (a .at) (omega arith)
 
 few-at-requires : tie.Need-few-at-requires
 few-at-requires c κs = search needs
