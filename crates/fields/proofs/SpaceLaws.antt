@@ -51,20 +51,20 @@ module _ (s : List ℕ) (at i : ℕ) (e : all isBlank (drop at s) ≡ all isBlan
   pub spaces-from : (r : Bool) → r ≡ all isBlank (drop i s) → r ≡ all isBlank (drop at s)
   spaces-from r q = q ∙ sym e
 
-  -- and 8 bytes at a time
-  module _ (r : Bool) (q : r ≡ all isBlank (take 8 (drop i s))) where
-    parted : all isBlank (drop at s) ≡ (r && all isBlank (drop (i + 8) s))
+  -- and n bytes at a time
+  module _ (n : ℕ) (r : Bool) (q : r ≡ all isBlank (take n (drop i s))) where
+    parted : all isBlank (drop at s) ≡ (r && all isBlank (drop (i + n) s))
     parted =
         e
-        ∙ ap (all isBlank) (sym (take-append-drop 8 (drop i s)))
-        ∙ all-append isBlank (take 8 (drop i s)) (drop 8 (drop i s))
-        ∙ rw (← q, drop-drop 8 i s)
+        ∙ ap (all isBlank) (sym (take-append-drop n (drop i s)))
+        ∙ all-append isBlank (take n (drop i s)) (drop n (drop i s))
+        ∙ rw (← q, drop-drop n i s)
 
     pub spaces-none : not r ≡ true → false ≡ all isBlank (drop at s)
-    spaces-none n = sym (parted ∙ rw (not-true r n))
+    spaces-none f = sym (parted ∙ rw (not-true r f))
 
-    pub spaces-far : not r ≡ false → all isBlank (drop at s) ≡ all isBlank (drop (i + 8) s)
-    spaces-far n = parted ∙ rw (not-false r n)
+    pub spaces-far : not r ≡ false → all isBlank (drop at s) ≡ all isBlank (drop (i + n) s)
+    spaces-far f = parted ∙ rw (not-false r f)
 
 -- spaces at the front are trimmed
 pub front-space : (t : List ℕ) → trimStart (32 ∷ t) ≡ trimStart t
