@@ -3,8 +3,6 @@ use borrow.Author.Needs.{needs}
 use Rattle.psv.proofs.write_texts.Statement.{statement}
 use Rattle.psv.proofs.write_texts.Tie as tie
 
-ruleset laws = (texts-written)
-
 write-bytes-requires : tie.Need-write-bytes-requires
 write-bytes-requires c κs = search needs
 
@@ -27,7 +25,14 @@ same-length : tie.Need-same-length
 same-length c = search needs
 
 returns : tie.Need-returns
-returns c = search laws
+returns c =
+    let sixth = c .before .before in
+    let fifth = sixth .before .before .before .before in
+    let fourth = fifth .before .before .before .before in
+    let third = fourth .before .before .before .before in
+    let second = third .before .before .before .before in
+    let first = second .before .before .before .before in
+    texts-written _ _ _ _ _ _ _ _ _ _ _ _ _ _ _ _ _ (first .write-bytes .ensures) (second .write-bytes2 .ensures) (third .write-byte .ensures) (fourth .write-bytes3 .ensures) (fifth .write-attributes .ensures) (sixth .write-byte2 .ensures)
 
 pub write-texts-spec : {M : Type 1} → statement M
 write-texts-spec =
