@@ -1,8 +1,7 @@
 -- The code's word of the bytes from a place on. Assumes nothing.
 use mathlib.Core.Path.{_≡_, refl, sym, ap, _∙_}
-use mathlib.Core.Bool.{Bool, true, false}
 use mathlib.Core.List.{List, _∷_}
-use Prim.Native.Nat.{ℕ, suc, _+_, _*_, _/_, _-_, _^_, _≤_, _<_, min}
+use Prim.Native.Nat.{ℕ, suc, _+_, _*_, _/_, _-_, _^_, _≤_, _<_}
 use native.Mathlib.Omega.{arith}
 use native.Mathlib.Nat.{add-zero}
 use mir.Syntax.{w64}
@@ -10,8 +9,6 @@ use mir.Val.{Fits}
 use lib.ListN.{length, getD, take, drop, length-drop, drop-of-length-le}
 use lib.Pow.{pow-mono}
 use lib.Seq.{drop-cons, drop-drop, take-all}
-use lib.Dec.{leb}
-use borrow.Author.Tests.{leb-true, leb-false}
 use Rattle.word.specs.Word.{number}
 use Rattle.word.proofs.Laws.{Bytes, number-drop, number-bound, drop-bytes, take-bytes}
 
@@ -55,13 +52,10 @@ module _ (s : List ℕ) (at : ℕ) where
   pub few : (r : ℕ) → length s ≤ 8 + at → r ≡ number (drop at s) → r ≡ number (take 8 (drop at s))
   few r h e = e ∙ ap number (sym (take-all 8 (drop at s) (simp length-drop (omega arith))))
 
-  pub late : (base r : ℕ) → Bytes s → at < length s → 8 ≤ length s → base ≡ min at (length s - 8) → r ≡ number (take 8 (drop base s))
-      → r / 2 ^ (8 * (at - base)) ≡ number (take 8 (drop at s))
-  late base r h n l b e = rw e (number-drop (at - base) (take 8 (drop base s)) (take-bytes 8 (drop base s) (drop-bytes base s h)) ∙ go (leb (at + 8) (length s)) refl)
-    where
-      go : (z : Bool) → leb (at + 8) (length s) ≡ z → number (drop (at - base) (take 8 (drop base s))) ≡ number (take 8 (drop at s))
-      go true z = let p : base ≡ at = omega (arith, leb-true (at + 8) (length s) z) in let q : at - at ≡ 0 = omega arith in rw (p, q)
-      go false z =
-          let p : base + (at - base) ≡ at = omega arith in
-          let q : length s < at + 8 = leb-false (at + 8) (length s) z in
-          rw (take-all 8 (drop base s) (simp length-drop (omega arith)), drop-drop (at - base) base s, p) (few (number (drop at s)) (omega arith) refl)
+  pub late : (r : ℕ) → Bytes s → 8 ≤ length s → length s - at < 8 → r ≡ number (take 8 (drop (length s - 8) s)) → r / 2 ^ (8 * (at - (length s - 8))) ≡ number (take 8 (drop at s))
+  late r h l n e =
+      let base : ℕ = length s - 8 in
+      let p : base + (at - base) ≡ at = omega arith in
+      rw e
+      (number-drop (at - base) (take 8 (drop base s)) (take-bytes 8 (drop base s) (drop-bytes base s h))
+      ∙ rw (take-all 8 (drop base s) (simp length-drop (omega arith)), drop-drop (at - base) base s, p) (few (number (drop at s)) (omega arith) refl))

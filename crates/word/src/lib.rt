@@ -1,6 +1,6 @@
 // Eight bytes of a text as one word of 64 bits, the lowest byte first, so that they can be looked at at once.
 ghost use mathlib.Core.Path.{_≡_};
-ghost use Prim.Native.Nat.{_+_, _≤_, min};
+ghost use Prim.Native.Nat.{_+_, _≤_};
 ghost use lib.ListN.{length, take, drop};
 ghost use Rattle.word.specs.Word.{number};
 
@@ -8,12 +8,6 @@ fn wide(b: u8) -> u64
     ensures { λ r. ⌜ (r ≡ b) × (r ≤ 255) ⌝ }
 {
     b as u64
-}
-
-fn smaller(a: usize, b: usize) -> usize
-    ensures { λ r. ⌜ r ≡ min a b ⌝ }
-{
-    if a < b { a } else { b }
 }
 
 // The compiler makes one load of it.
@@ -52,9 +46,12 @@ pub fn word_at(s: &[u8], at: usize) -> u64
     if s.len() <= at {
         return 0;
     }
+    if 8 <= s.len() - at {
+        return eight_at(s, at);
+    }
     if s.len() < 8 {
         return few_at(s, at);
     }
-    let base = smaller(at, s.len() - 8);
+    let base = s.len() - 8;
     eight_at(s, base) >> (8 * (at - base) as u64)
 }

@@ -8,20 +8,26 @@ use Rattle.word.proofs.word_at.Tie as tie
 returns : tie.Need-returns
 returns c = let a = c .before .before .args in past (a .s .now) (a .at) (omega arith)
 
-few-at-requires : tie.Need-few-at-requires
-few-at-requires c κs = search needs
-
-returns-2 : tie.Need-returns-2
-returns-2 c = let a = c .before .before .before .before .args in few (a .s .now) (a .at) (c .few-at .result) (omega arith) (c .few-at .ensures)
-
-sub-smaller : tie.Need-sub-smaller
-sub-smaller c = search needs
-
-smaller-requires : tie.Need-smaller-requires
-smaller-requires c κs = search needs
+sub-if2 : tie.Need-sub-if2
+sub-if2 c = search needs
 
 eight-at-requires : tie.Need-eight-at-requires
 eight-at-requires c κs = search needs
+
+returns-2 : tie.Need-returns-2
+returns-2 c = search needs
+
+few-at-requires : tie.Need-few-at-requires
+few-at-requires c κs = search needs
+
+returns-3 : tie.Need-returns-3
+returns-3 c = let a = c .before .before .before .before .before .args in few (a .s .now) (a .at) (c .few-at .result) (omega arith) (c .few-at .ensures)
+
+sub-base : tie.Need-sub-base
+sub-base c = search needs
+
+eight-at-requires-2 : tie.Need-eight-at-requires-2
+eight-at-requires-2 c κs = search needs
 
 sub-result : tie.Need-sub-result
 sub-result c = search needs
@@ -32,20 +38,24 @@ mul-result c = search needs
 shr-result : tie.Need-shr-result
 shr-result c = search needs
 
-returns-3 : tie.Need-returns-3
-returns-3 c = let a = c .before .before .before .before .before .args in late (a .s .now) (a .at) (c .before .smaller .result) (c .eight-at .result) (c .before .before .before .before .shared-slice-known .given) (omega arith) (omega arith) (c .before .smaller .ensures) (c .eight-at .ensures)
+returns-4 : tie.Need-returns-4
+returns-4 c =
+    let a = c .before .before .before .before .before .args in
+    late (a .s .now) (a .at) (c .eight-at2 .result) (c .before .before .before .before .shared-slice-known .given) (omega arith) (omega arith) (c .eight-at2 .ensures)
 
 pub word-at-spec : {M : Type 1} → statement M
 word-at-spec =
     tie.close
     (tie.spec
     returns
-    few-at-requires
-    returns-2
-    sub-smaller
-    smaller-requires
+    sub-if2
     eight-at-requires
+    returns-2
+    few-at-requires
+    returns-3
+    sub-base
+    eight-at-requires-2
     sub-result
     mul-result
     shr-result
-    returns-3)
+    returns-4)
