@@ -1,9 +1,10 @@
 pub mod Fronts
 pub mod Texts
-pub mod Begins
 pub mod Lines
 pub mod Steps
 pub mod Runs
+pub mod Routes
+pub mod Bodies
 pub mod Cuts
 pub mod Opening
 pub mod Table

@@ -12,7 +12,7 @@ use Rattle.scan.proofs.LineLaws.{line-at, lineEnd-inside, lineEnd-after, no-lin
 use Rattle.psv_stream.specs.Printed.{header, stopped, onLine, atEnd, printedFrom}
 use Rattle.psv_stream.specs.Printed as P
 use Rattle.psv_stream.specs.Run.{headerBytes, stageOf, rest, Later}
-use Rattle.psv_stream.specs.Parts.{Fronts, acts, Last, Ends, longText, TooLong, Does, Steps}
+use Rattle.psv_stream.specs.Parts.{Puts, Fronts, acts, Ends, longText, TooLong, Does, Steps}
 use Rattle.psv_stream.specs.declared.Phase.{Phase}
 use Rattle.psv_stream.specs.declared.Phase.the-variants.{Path, Header, Body, Stopped}
 use Rattle.psv_stream.specs.declared.Front.{Front}
@@ -20,7 +20,6 @@ use Rattle.psv_stream.specs.declared.Front.the-variants as front
 use Rattle.psv_stream.specs.declared.Step.{Step}
 use Rattle.psv_stream.specs.declared.Step.the-variants as step
 use Rattle.psv_stream.proofs.Texts.{put-text, put-behind}
-use Rattle.psv_stream.proofs.Begins.{begins-on}
 
 -- nothing is printed any more
 stopped-rest : (ls : List (List ℕ)) → printedFrom stopped ls ≡ []
@@ -67,13 +66,12 @@ module _ (p : Phase) (s : List ℕ) (ended : Bool) (out new : List ℕ) where
         rw (stage-kept q (drop c s) later k, drop-append-le (headerBytes q) (drop c s) later k, drop-drop, h)
 
     does-steps : (r : Step) → Does (acts p (take e s)) s e out new r → Steps p s ended out new r
-    does-steps (step.Took q c w) d = (
+    does-steps (step.Took c w q) d = (
       omega (arith, line .0, d .2),
       omega (arith, line .1, d .2),
       d .0 .1,
       put-behind (acts p (take e s) .0) out new w (d .0),
       λ later none. rw (put-text (acts p (take e s) .0) out new w (d .0)) (line-rest later none ∙ rw (d .1, rest-next q c later (d .2))),
-      begins-on p (take e s) q (drop c s) (d .1),
     )
     does-steps (step.Stops w) d = (
       d .0 .1,
@@ -83,11 +81,9 @@ module _ (p : Phase) (s : List ℕ) (ended : Bool) (out new : List ℕ) where
     does-steps step.Starved d = absurd d
 
   -- the last text
-  last-steps : (text : List ℕ) → ((later : List ℕ) → Later ended later → rest p (s ++ later) ≡ text) → (r : Step) → Last text out new r → Steps p s ended out new r
-  last-steps text is (step.Took q c w) d = absurd d
-  last-steps text is (step.Stops w) d =
+  last-steps : (text : List ℕ) → ((later : List ℕ) → Later ended later → rest p (s ++ later) ≡ text) → (w : ℕ) → Puts text out new w → Steps p s ended out new (step.Stops w)
+  last-steps text is w d =
       (d .1, put-behind text out new w d, λ later none. rw (put-text text out new w d) (is later none ∙ rw (rest-stopped later) (sym (append-nil text))))
-  last-steps text is step.Starved d = absurd d
 
 -- a line that is too long
 module _ (t : List ℕ) (at : ℕ) (inside : at < length t) (long : 65536 < lineEnd t at) where
@@ -109,7 +105,7 @@ long-on (Body σ n) t inside long = rw (is-long t 0 inside long [] refl)
 long-on Stopped t inside long = refl
 
 module _ (p : Phase) (s : List ℕ) (ended : Bool) (out new : List ℕ) where
-  too-long-steps : Fronts s (headerBytes p) ended front.TooLong → (r : Step) → TooLong p out new r → Steps p s ended out new r
+  too-long-steps : Fronts s (headerBytes p) ended front.TooLong → (w : ℕ) → TooLong p out new w → Steps p s ended out new (step.Stops w)
   unfolding rest printedFrom
   too-long-steps long = last-steps p s ended out new (longText p) (λ later none. is later)
     where
@@ -119,7 +115,7 @@ module _ (p : Phase) (s : List ℕ) (ended : Bool) (out new : List ℕ) where
           rw (line-at (s ++ later) (headerBytes p) inside, long-on p (s ++ later) inside (long .1 later), stopped-rest (lines (drop (lineEnd (s ++ later) (headerBytes p)) (s ++ later)))) (append-nil (longText p))
 
   -- no line
-  nothing-steps : Fronts s (headerBytes p) ended front.Nothing → (r : Step) → Ends p out new r → Steps p s ended out new r
+  nothing-steps : Fronts s (headerBytes p) ended front.Nothing → (w : ℕ) → Ends p out new w → Steps p s ended out new (step.Stops w)
   unfolding rest printedFrom
   nothing-steps over = last-steps p s ended out new (atEnd (stageOf p [])) (λ later none. is later (none (over .0)))
     where
@@ -143,12 +139,12 @@ module _ (p : Phase) (s : List ℕ) (ended : Bool) (at : ℕ) (here : at ≡ hea
   pub starved-steps : f ≡ front.Starved → (out : List ℕ) → Steps p s ended out out step.Starved
   starved-steps g out = (refl, rw g at here-known)
 
-  module _ (out new : List ℕ) (r : Step) where
-    pub line-steps : (e : ℕ) → f ≡ front.Line e → Does (acts p (take e s)) s e out new r → Steps p s ended out new r
-    line-steps e g = does-steps p s ended out new e (rw g at here-known) r
+  module _ (out new : List ℕ) where
+    pub line-steps : (r : Step) (e : ℕ) → f ≡ front.Line e → Does (acts p (take e s)) s e out new r → Steps p s ended out new r
+    line-steps r e g = does-steps p s ended out new e (rw g at here-known) r
 
-    pub long-steps : f ≡ front.TooLong → TooLong p out new r → Steps p s ended out new r
-    long-steps g = too-long-steps p s ended out new (rw g at here-known) r
+    pub long-steps : (w : ℕ) → f ≡ front.TooLong → TooLong p out new w → Steps p s ended out new (step.Stops w)
+    long-steps w g = too-long-steps p s ended out new (rw g at here-known) w
 
-    pub end-steps : f ≡ front.Nothing → Ends p out new r → Steps p s ended out new r
-    end-steps g = nothing-steps p s ended out new (rw g at here-known) r
+    pub end-steps : (w : ℕ) → f ≡ front.Nothing → Ends p out new w → Steps p s ended out new (step.Stops w)
+    end-steps w g = nothing-steps p s ended out new (rw g at here-known) w

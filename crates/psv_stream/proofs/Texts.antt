@@ -25,8 +25,7 @@ use Rattle.psv.specs.Line.{headerText, psvText, Printed}
 use Rattle.psv.specs.declared.ElementPut.{ElementPut}
 use Rattle.psv.specs.declared.ElementPut.the-variants as put
 use Rattle.psv_stream.specs.Printed.{feed, refusalText}
-use Rattle.psv_stream.specs.Parts.{Puts, Refuses, PutElement}
-use Rattle.psv_stream.specs.declared.Step.the-variants as step
+use Rattle.psv_stream.specs.Parts.{Puts, PutElement}
 
 -- a writer that has room puts its text
 module _ (t out new : List ℕ) (w : ℕ) where
@@ -60,7 +59,7 @@ module _ (number line : ℕ) (out : List ℕ) where
 
   pub refuses : (o₁ o₂ o₃ o₄ new : List ℕ) (a b c d w : ℕ) → 65537 ≤ length out → Fits w64 number → Fits w64 line
       → Written (ascii "refused=") out 0 o₁ a → Written (decimal number) o₁ a o₂ b → Written (feed ++ ascii "line=") o₂ b o₃ c → Written (decimal line) o₃ c o₄ d
-      → Written feed o₄ d new w → Refuses number line out new (step.Stops w)
+      → Written feed o₄ d new w → Puts (refusalText number line) out new w
   unfolding refusalText
   refuses o₁ o₂ o₃ o₄ new a b c d w h f g w₁ w₂ w₃ w₄ w₅ =
       let v : Written (refusalText number line) out 0 new w = rw (← refusal-is (decimal number) (decimal line)) (then (then (then (then w₁ w₂) w₃) w₄) w₅) in

@@ -1,21 +1,34 @@
 // The program table2psv as a function of the bytes at hand: which bytes are to be printed, and what is left for when more input has come.
 ghost use mathlib.Core.Path.{_≡_};
-ghost use mathlib.Core.List.{List, [], _++_};
-ghost use Prim.Native.Nat.{ℕ, _≤_};
+ghost use mathlib.Core.Bool.{true, false};
+ghost use mathlib.Core.List.{List, [], _∷_, _++_};
+ghost use Prim.Native.Nat.{ℕ, _≤_, _<_};
 ghost use lib.ListN.{length, take};
-ghost use Rattle.elem.specs.Element.{spoilt};
-ghost use Rattle.psv.specs.Line.{headerText, psvText, peerText, Printed};
+ghost use Rattle.scan.specs.Lines.{lines};
+ghost use Rattle.psv.specs.Line.{headerText, betweenText};
 ghost use Rattle.timestamp.specs.Dates.{inferTimestamp};
+ghost use Rattle.path_text.specs.Path.{asnsOf};
+ghost use Rattle.text_dump_line.specs.Line.{lineOf, pathOf};
+ghost use Rattle.text_dump_line.specs.declared.Line.the-variants as read;
+ghost use Rattle.text_dump.specs.State.{turned, spoilt};
+ghost use Rattle.text_dump.specs.declared.Remembered.the-variants as remembered;
 ghost use Rattle.text_dump.specs.Open.{openOf};
-ghost use Rattle.psv_stream.specs.Printed.{feed, dated, scanned, printedElement, answered, nextOf};
+ghost use Rattle.psv_stream.specs.Printed.{feed, refusalText, dated, scanned};
 ghost use Rattle.psv_stream.specs.Run.{headerBytes, Runs, keptLength, kept};
-ghost use Rattle.psv_stream.specs.Parts.{acts, frontOf, Starts, Begins, Puts, PutElement, Refuses, Ends, TooLong, Does, Fronts, Steps};
+ghost use Rattle.psv_stream.specs.Parts.{acts, isHead, frontOf, Puts, PutElement, Copies, PutRoute, PutCopy, Fine, Begins, keptLen, Kept, BodyDoes, Keeps, phaseOf, stepOf, Ends, TooLong, Does, Fronts, Steps, Heads};
+ghost use Rattle.psv_stream.specs.declared.Phase.the-variants as phase;
 use elem::Element;
+use elem::OptAsn;
+use network::NetworkPrefix;
 use output::Put;
+use path_text::AsnsPut;
 use psv::ElementPut;
-use text_dump::Next;
 use text_dump::Opened;
+use text_dump::Remembered;
 use text_dump::State;
+use text_dump_line::Line;
+use text_dump_line::PrefixText;
+use text_dump_line::RouteEntry;
 use timestamp::Inferred;
 
 // What is to come.
@@ -39,9 +52,9 @@ enum Front {
     Starved,
 }
 
-// What a line comes to: the new phase, how many bytes are consumed, and how many are written; or the last bytes that are written.
+// What a line comes to: how many bytes are consumed, how many are written, and the new phase; or the last bytes that are written.
 enum Step {
-    Took(Phase, usize, usize),
+    Took(usize, usize, Phase),
     Stops(usize),
     Starved,
 }
@@ -69,31 +82,31 @@ fn line_at(input: &[u8], at: usize, ended: bool) -> Front
     Front::Starved
 }
 
-fn refuse(number: u64, line: u64, out: &mut [u8]) -> Step
+fn refuse(number: u64, line: u64, out: &mut [u8]) -> usize
     requires { ⌜ 65537 ≤ length (now out) ⌝ }
-    ensures { λ r. ⌜ Refuses number line (now (out .entry)) (now (out .exit)) r ⌝ }
+    ensures { λ r. ⌜ Puts (refusalText number line) (now (out .entry)) (now (out .exit)) r ⌝ }
 {
     let a = output::write_bytes(b"refused=", out, 0);
     let b = decimal_display::write_u64(number, out, a);
     let c = output::write_bytes(b"\nline=", out, b);
     let d = decimal_display::write_u64(line, out, c);
-    Step::Stops(output::write_byte(b'\n', out, d))
+    output::write_byte(b'\n', out, d)
 }
 
 // What is printed at the input's end.
-fn end(phase: Phase, out: &mut [u8]) -> Step
+fn end(phase: Phase, out: &mut [u8]) -> usize
     requires { ⌜ 65537 ≤ length (now out) ⌝ }
     ensures { λ r. ⌜ Ends phase (now (out .entry)) (now (out .exit)) r ⌝ }
 {
     match phase {
         Phase::Path => refuse(2, 0, out),
         Phase::Header(_, _, _) => refuse(2, 0, out),
-        Phase::Body(_, _) => Step::Stops(0),
-        Phase::Stopped => Step::Stops(0),
+        Phase::Body(_, _) => 0,
+        Phase::Stopped => 0,
     }
 }
 
-fn too_long(phase: Phase, out: &mut [u8]) -> Step
+fn too_long(phase: Phase, out: &mut [u8]) -> usize
     requires { ⌜ 65537 ≤ length (now out) ⌝ }
     ensures { λ r. ⌜ TooLong phase (now (out .entry)) (now (out .exit)) r ⌝ }
 {
@@ -101,7 +114,7 @@ fn too_long(phase: Phase, out: &mut [u8]) -> Step
         Phase::Path => refuse(13, 0, out),
         Phase::Header(_, n, _) => refuse(13, std::num::wrapping_add_u64(n, 1), out),
         Phase::Body(_, n) => refuse(13, std::num::wrapping_add_u64(n, 1), out),
-        Phase::Stopped => Step::Stops(0),
+        Phase::Stopped => 0,
     }
 }
 
@@ -112,9 +125,9 @@ fn path_line(input: &[u8], end: usize, out: &mut [u8]) -> Step
 {
     let inferred = timestamp::infer_timestamp_from_path(&input[..end]);
     match inferred {
-        Inferred::Timestamp(t) => Step::Took(Phase::Header(t, 0, 0), end, 0),
-        Inferred::Nothing => Step::Took(Phase::Header(0.0, 0, 0), end, 0),
-        Inferred::NotUtf8 => refuse(3, 0, out),
+        Inferred::Timestamp(t) => Step::Took(end, 0, Phase::Header(t, 0, 0)),
+        Inferred::Nothing => Step::Took(end, 0, Phase::Header(0.0, 0, 0)),
+        Inferred::NotUtf8 => Step::Stops(refuse(3, 0, out)),
     }
 }
 
@@ -136,103 +149,38 @@ fn header_line(t: f64, number: u64, input: &[u8], end: usize, out: &mut [u8]) ->
 {
     let opened = State::open(&input[..end], t);
     match opened {
-        Opened::Table(state) => Step::Took(Phase::Body(state, number), end, put_header(out)),
-        Opened::Unreadable(line) => refuse(1, line as u64, out),
-        Opened::NoTimestamp => refuse(4, 0, out),
+        Opened::Table(state) => Step::Took(end, put_header(out), Phase::Body(state, number)),
+        Opened::Unreadable(line) => Step::Stops(refuse(1, line as u64, out)),
+        Opened::NoTimestamp => Step::Stops(refuse(4, 0, out)),
         Opened::NoColumns => {
             if number < 64 {
-                return Step::Took(Phase::Header(t, number, end), 0, 0);
+                return Step::Took(0, 0, Phase::Header(t, number, end));
             }
-            refuse(2, 0, out)
+            Step::Stops(refuse(2, 0, out))
         }
     }
 }
 
-// An element's line, with its front copied where that was printed before.
-fn print_element(start: &[u8], e: Element, asns: &[u32], out: &mut [u8]) -> ElementPut
-    requires { ⌜ Starts (now start) (peerText e) ⌝ }
-    ensures { λ r. ⌜ Printed (spoilt e (now (asns .entry))) (psvText e (now (asns .entry))) (now (out .entry)) r (now (out .exit)) ⌝ }
+// Is the next line taken by the loop over the head? It is until the table is open; under a spoilt state too, where a line is only refused.
+fn is_head(phase: Phase) -> bool
+    ensures { λ r. ⌜ r ≡ isHead phase ⌝ }
 {
-    if start.len() == 0 {
-        return psv::to_psv(e, asns, out);
-    }
-    psv::to_psv_behind(start, e, asns, out)
-}
-
-// An element's line and its line feed.
-fn put_element(start: &[u8], e: Element, asns: &[u32], out: &mut [u8]) -> ElementPut
-    requires { ⌜ 65537 ≤ length (now out) ⌝ }
-    requires { ⌜ Starts (now start) (peerText e) ⌝ }
-    ensures { λ r. ⌜ PutElement e (now (asns .entry)) (now (out .entry)) (now (out .exit)) r ⌝ }
-{
-    let put = print_element(start, e, asns, &mut out[..65536]);
-    match put {
-        ElementPut::Wrote(n) => ElementPut::Wrote(output::write_byte(b'\n', out, n)),
-        ElementPut::Spoilt => ElementPut::Spoilt,
-        ElementPut::TooShort => ElementPut::TooShort,
-    }
-}
-
-// The element of the line with that number, behind which the state stands.
-fn element_line(
-    start: &[u8],
-    e: Element,
-    behind: State,
-    number: u64,
-    end: usize,
-    asns: &[u32],
-    out: &mut [u8],
-) -> Step
-    requires { ⌜ 65537 ≤ length (now out) ⌝ }
-    requires { ⌜ Starts (now start) (peerText e) ⌝ }
-    ensures { λ r. ⌜ ((s : List ℕ) → Does (printedElement number behind e (take (e .count) (now (asns .entry)))) s end (now (out .entry)) (now (out .exit)) r) ⌝ }
-{
-    let put = put_element(start, e, asns, out);
-    match put {
-        ElementPut::Wrote(n) => Step::Took(Phase::Body(behind, number), end, n),
-        ElementPut::Spoilt => refuse(8, number, out),
-        ElementPut::TooShort => refuse(9, number, out),
-    }
-}
-
-// The line with that number, as a part of the table by itself.
-fn body_line(
-    start: &[u8],
-    state: State,
-    number: u64,
-    input: &[u8],
-    end: usize,
-    asns: &mut [u32; 16384],
-    out: &mut [u8],
-) -> Step
-    requires { ⌜ 65537 ≤ length (now out) ⌝ }
-    requires { ⌜ end ≤ length (now input) ⌝ }
-    requires { ⌜ Starts (now start) (frontOf state) ⌝ }
-    ensures { λ r. ⌜ Does (answered number (nextOf state (take end (now (input .entry))) .0) (nextOf state (take end (now (input .entry))) .1)) (now (input .entry)) end (now (out .entry)) (now (out .exit)) r ⌝ }
-{
-    let turned = state.turn();
-    let answer = turned.next(&input[..end], asns);
-    match answer {
-        Next::End(behind) => Step::Took(Phase::Body(behind, number), end, 0),
-        Next::Spoilt(_) => refuse(5, number, out),
-        Next::Unreadable(_) => refuse(6, number, out),
-        Next::TooFewPlaces(_) => refuse(7, number, out),
-        Next::Element(e, behind) => element_line(start, e, behind, number, end, asns, out),
+    match phase {
+        Phase::Path => true,
+        Phase::Header(_, _, _) => true,
+        Phase::Body(state, _) => {
+            let turned = state.turn();
+            turned.is_spoilt(0)
+        }
+        Phase::Stopped => false,
     }
 }
 
 // A line that ends there, and is not too long.
-fn on_line(
-    start: &[u8],
-    phase: Phase,
-    input: &[u8],
-    end: usize,
-    asns: &mut [u32; 16384],
-    out: &mut [u8],
-) -> Step
+fn on_line(phase: Phase, input: &[u8], end: usize, out: &mut [u8]) -> Step
     requires { ⌜ 65537 ≤ length (now out) ⌝ }
     requires { ⌜ end ≤ length (now input) ⌝ }
-    requires { ⌜ Begins (now start) phase ⌝ }
+    requires { ⌜ isHead phase ≡ true ⌝ }
     ensures { λ r. ⌜ Does (acts phase (take end (now (input .entry)))) (now (input .entry)) end (now (out .entry)) (now (out .exit)) r ⌝ }
 {
     match phase {
@@ -241,10 +189,7 @@ fn on_line(
             let number = std::num::wrapping_add_u64(n, 1);
             header_line(t, number, input, end, out)
         }
-        Phase::Body(state, n) => {
-            let number = std::num::wrapping_add_u64(n, 1);
-            body_line(start, state, number, input, end, asns, out)
-        }
+        Phase::Body(_, n) => Step::Stops(refuse(5, std::num::wrapping_add_u64(n, 1), out)),
         Phase::Stopped => Step::Stops(0),
     }
 }
@@ -261,24 +206,17 @@ fn header_bytes(phase: Phase) -> usize
     }
 }
 
-fn take_line(
-    start: &[u8],
-    phase: Phase,
-    input: &[u8],
-    ended: bool,
-    asns: &mut [u32; 16384],
-    out: &mut [u8],
-) -> Step
+fn take_line(phase: Phase, input: &[u8], ended: bool, out: &mut [u8]) -> Step
     requires { ⌜ 65537 ≤ length (now out) ⌝ }
-    requires { ⌜ Begins (now start) phase ⌝ }
+    requires { ⌜ isHead phase ≡ true ⌝ }
     ensures { λ r. ⌜ Steps phase (now (input .entry)) ended (now (out .entry)) (now (out .exit)) r ⌝ }
 {
     let front = line_at(input, header_bytes(phase), ended);
     match front {
         Front::Starved => Step::Starved,
-        Front::Nothing => end(phase, out),
-        Front::TooLong => too_long(phase, out),
-        Front::Line(end) => on_line(start, phase, input, end, asns, out),
+        Front::Nothing => Step::Stops(end(phase, out)),
+        Front::TooLong => Step::Stops(too_long(phase, out)),
+        Front::Line(end) => on_line(phase, input, end, out),
     }
 }
 
@@ -291,30 +229,23 @@ pub struct Ran {
     pub starved: bool,
 }
 
-// Takes lines as long as there is a whole one, and room for what it may print.
-fn take_lines(
-    start: &[u8],
-    phase: Phase,
-    input: &[u8],
-    ended: bool,
-    asns: &mut [u32; 16384],
-    out: &mut [u8],
-) -> Ran
-    requires { ⌜ Begins (now start) phase ⌝ }
-    ensures { λ r. ⌜ Runs phase (now (input .entry)) ended (now (out .entry)) r (now (out .exit)) ⌝ }
+// Takes lines of the head as long as there is a whole one, and room for what it may print.
+fn take_head(phase: Phase, input: &[u8], ended: bool, out: &mut [u8]) -> Ran
+    ensures { λ r. ⌜ Heads phase (now (input .entry)) ended (now (out .entry)) r (now (out .exit)) ⌝ }
 {
     let mut phase = phase;
     let mut consumed = 0;
     let mut written = 0;
     while 65537 <= out.len() - written {
-        let step = take_line(
-            start,
-            phase,
-            &input[consumed..],
-            ended,
-            asns,
-            &mut out[written..],
-        );
+        if !is_head(phase) {
+            return Ran {
+                phase,
+                consumed,
+                written,
+                starved: false,
+            };
+        }
+        let step = take_line(phase, &input[consumed..], ended, &mut out[written..]);
         match step {
             Step::Starved => {
                 return Ran {
@@ -333,7 +264,7 @@ fn take_lines(
                     starved: false,
                 };
             }
-            Step::Took(next, bytes, n) => {
+            Step::Took(bytes, n, next) => {
                 phase = next;
                 consumed += bytes;
                 written += n;
@@ -348,18 +279,366 @@ fn take_lines(
     }
 }
 
+// The body.
+
+// Where the loop over the body's lines stands: what the state remembers and where it is, how many lines of the listing have come, and how many
+// bytes of what the lines under the remembered prefix begin with are printed: all of them, or none.
+struct Place {
+    remembered: Remembered,
+    position: usize,
+    number: u64,
+    start_len: usize,
+}
+
+// A Step of the body. The numbers come first, so that each stands at the same place in every variant.
+enum BodyStep {
+    Took(usize, usize, Place),
+    Stops(usize),
+    Starved,
+}
+
+// A route's line: how many bytes it has, or the number of its refusal.
+enum RoutePut {
+    Wrote(usize),
+    Refused(u64),
+}
+
+// An element's line and its line feed.
+fn put_element(e: Element, asns: &[u32], out: &mut [u8]) -> ElementPut
+    requires { ⌜ 65537 ≤ length (now out) ⌝ }
+    ensures { λ r. ⌜ PutElement e (now (asns .entry)) (now (out .entry)) (now (out .exit)) r ⌝ }
+{
+    let put = psv::to_psv(e, asns, &mut out[..65536]);
+    match put {
+        ElementPut::Wrote(n) => ElementPut::Wrote(output::write_byte(b'\n', out, n)),
+        ElementPut::Spoilt => ElementPut::Spoilt,
+        ElementPut::TooShort => ElementPut::TooShort,
+    }
+}
+
+// A route's line by the numbers of its path.
+fn print_numbers(
+    state: State,
+    prefix: NetworkPrefix,
+    entry: RouteEntry,
+    path: &[u8],
+    asns: &mut [u32; 16384],
+    out: &mut [u8],
+) -> RoutePut
+    requires { ⌜ 65537 ≤ length (now out) ⌝ }
+    ensures { λ r. ⌜ PutRoute state prefix entry (asnsOf (now (path .entry))) (now (out .entry)) (now (out .exit)) r ⌝ }
+{
+    let AsnsPut::Wrote(count) = path_text::put_asns(path, asns) else {
+        return RoutePut::Refused(7);
+    };
+    let origin_asn = text_dump::origin_asn(asns, count);
+    let element = state.element(prefix, entry, count, origin_asn);
+    let put = put_element(element, asns, out);
+    match put {
+        ElementPut::Wrote(n) => RoutePut::Wrote(n),
+        ElementPut::Spoilt => RoutePut::Refused(8),
+        ElementPut::TooShort => RoutePut::Refused(9),
+    }
+}
+
+// A route's line put together from texts: what it begins with, and its path's own text.
+fn copy_route(begin: &[u8], path: &[u8], e: Element, out: &mut [u8]) -> Put
+    requires { ⌜ 65537 ≤ length (now out) ⌝ }
+    ensures { λ r. ⌜ Copies (now (begin .entry)) (now (path .entry)) e (now (out .entry)) (now (out .exit)) r ⌝ }
+{
+    Put::TooShort
+}
+
+// The same for a route under a prefix, if what its line begins with is printed.
+fn copy_behind(
+    start: &[u8],
+    state: State,
+    prefix: NetworkPrefix,
+    entry: RouteEntry,
+    path: &[u8],
+    out: &mut [u8],
+) -> Put
+    requires { ⌜ 65537 ≤ length (now out) ⌝ }
+    requires { ⌜ Fine state (remembered.Valid prefix) ⌝ }
+    requires { ⌜ (0 < length (now start) → now start ≡ frontOf state ++ betweenText prefix) ⌝ }
+    ensures { λ r. ⌜ PutCopy state prefix entry (asnsOf (now (path .entry))) (now (out .entry)) (now (out .exit)) r ⌝ }
+{
+    if start.len() == 0 {
+        return Put::TooShort;
+    }
+    let e = state.element(prefix, entry, 0, OptAsn::Nothing);
+    copy_route(start, path, e, out)
+}
+
+fn print_route(
+    start: &[u8],
+    state: State,
+    prefix: NetworkPrefix,
+    entry: RouteEntry,
+    line: &[u8],
+    asns: &mut [u32; 16384],
+    out: &mut [u8],
+) -> RoutePut
+    requires { ⌜ 65537 ≤ length (now out) ⌝ }
+    requires { ⌜ Fine state (remembered.Valid prefix) ⌝ }
+    requires { ⌜ (0 < length (now start) → now start ≡ frontOf state ++ betweenText prefix) ⌝ }
+    ensures { λ r. ⌜ PutRoute state prefix entry (asnsOf (pathOf entry (now (line .entry)))) (now (out .entry)) (now (out .exit)) r ⌝ }
+{
+    let path = text_dump_line::path_of(line, entry);
+    let Put::Wrote(n) = copy_behind(start, state, prefix, entry, path, out) else {
+        return print_numbers(state, prefix, entry, path, asns, out);
+    };
+    RoutePut::Wrote(n)
+}
+
+// What the lines under a prefix begin with is printed behind the front, if it is not yet and has room: how many bytes it has.
+fn start_of(start: &mut [u8], front_len: usize, prefix: NetworkPrefix, start_len: usize) -> usize
+    ensures { λ r. ⌜ ((front : List ℕ) → Begins front (now (start .entry)) «front_len» (remembered.Valid prefix) «start_len» → Begins front (now (start .exit)) «front_len» (remembered.Valid prefix) r) ⌝ }
+{
+    if front_len == 0 {
+        return 0;
+    }
+    if 0 < start_len {
+        return start_len;
+    }
+    let n = psv::write_between(prefix, start, front_len);
+    if n < start.len() {
+        return n;
+    }
+    0
+}
+
+// What was printed for the prefix before serves a line with no prefix text, and no other.
+fn kept_len(text: PrefixText, start_len: usize) -> usize
+    ensures { λ r. ⌜ r ≡ keptLen text «start_len» ⌝ }
+{
+    match text {
+        PrefixText::Blank => start_len,
+        PrefixText::Invalid => 0,
+        PrefixText::Valid(_) => 0,
+    }
+}
+
+// A line with a route.
+fn route_line(
+    start: &mut [u8],
+    front_len: usize,
+    state: State,
+    b: Place,
+    text: PrefixText,
+    entry: RouteEntry,
+    line: &[u8],
+    asns: &mut [u32; 16384],
+    out: &mut [u8],
+) -> BodyStep
+    requires { ⌜ 65537 ≤ length (now out) ⌝ }
+    requires { ⌜ lines (now line) ≡ now line ∷ [] ⌝ }
+    requires { ⌜ read.Route text entry ≡ lineOf (state .columns) (now line) ⌝ }
+    requires { ⌜ Kept state (now start) «front_len» b ⌝ }
+    ensures { λ r. ⌜ BodyDoes state b (now (line .entry)) (now (out .entry)) (now (out .exit)) r ⌝ }
+    ensures { λ r. ⌜ Keeps state (now (start .exit)) «front_len» r ⌝ }
+{
+    let number = std::num::wrapping_add_u64(b.number, 1);
+    let position = line.len();
+    let before = b.remembered;
+    let kept = kept_len(text, b.start_len);
+    let remembered = text_dump::replaced(text, before);
+    let Remembered::Valid(prefix) = remembered else {
+        return BodyStep::Took(
+            position,
+            0,
+            Place {
+                remembered,
+                position,
+                number,
+                start_len: 0,
+            },
+        );
+    };
+    let start_len = start_of(start, front_len, prefix, kept);
+    let put = print_route(&start[..start_len], state, prefix, entry, line, asns, out);
+    match put {
+        RoutePut::Wrote(n) => BodyStep::Took(
+            position,
+            n,
+            Place {
+                remembered: Remembered::Valid(prefix),
+                position,
+                number,
+                start_len,
+            },
+        ),
+        RoutePut::Refused(n) => BodyStep::Stops(refuse(n, number, out)),
+    }
+}
+
+// A body line that is not too long.
+fn body_line(
+    start: &mut [u8],
+    front_len: usize,
+    state: State,
+    b: Place,
+    line: &[u8],
+    asns: &mut [u32; 16384],
+    out: &mut [u8],
+) -> BodyStep
+    requires { ⌜ 65537 ≤ length (now out) ⌝ }
+    requires { ⌜ lines (now line) ≡ now line ∷ [] ⌝ }
+    requires { ⌜ Kept state (now start) «front_len» b ⌝ }
+    ensures { λ r. ⌜ BodyDoes state b (now (line .entry)) (now (out .entry)) (now (out .exit)) r ⌝ }
+    ensures { λ r. ⌜ Keeps state (now (start .exit)) «front_len» r ⌝ }
+{
+    let columns = state.columns;
+    let number = std::num::wrapping_add_u64(b.number, 1);
+    let position = line.len();
+    let read = text_dump_line::line_of(line, columns);
+    match read {
+        Line::Unreadable => BodyStep::Stops(refuse(6, number, out)),
+        Line::Passed => {
+            let remembered = b.remembered;
+            let start_len = b.start_len;
+            BodyStep::Took(
+                position,
+                0,
+                Place {
+                    remembered,
+                    position,
+                    number,
+                    start_len,
+                },
+            )
+        }
+        Line::Wrapped(wrapped) => BodyStep::Took(
+            position,
+            0,
+            Place {
+                remembered: Remembered::Valid(wrapped),
+                position,
+                number,
+                start_len: 0,
+            },
+        ),
+        Line::Route(text, entry) => route_line(
+            start,
+            front_len,
+            state,
+            b,
+            text,
+            entry,
+            line,
+            asns,
+            out,
+        ),
+    }
+}
+
+fn take_body_line(
+    start: &mut [u8],
+    front_len: usize,
+    state: State,
+    b: Place,
+    input: &[u8],
+    ended: bool,
+    asns: &mut [u32; 16384],
+    out: &mut [u8],
+) -> BodyStep
+    requires { ⌜ 65537 ≤ length (now out) ⌝ }
+    requires { ⌜ Kept state (now start) «front_len» b ⌝ }
+    ensures { λ r. ⌜ Steps (phaseOf state b) (now (input .entry)) ended (now (out .entry)) (now (out .exit)) (stepOf state r) ⌝ }
+    ensures { λ r. ⌜ Keeps state (now (start .exit)) «front_len» r ⌝ }
+{
+    let front = line_at(input, 0, ended);
+    match front {
+        Front::Starved => BodyStep::Starved,
+        Front::Nothing => BodyStep::Stops(0),
+        Front::TooLong => BodyStep::Stops(refuse(13, std::num::wrapping_add_u64(b.number, 1), out)),
+        Front::Line(end) => body_line(start, front_len, state, b, &input[..end], asns, out),
+    }
+}
+
+// A run that ends in the body.
+fn body_ran(state: State, b: Place, consumed: usize, written: usize, starved: bool) -> Ran
+    ensures { λ r. ⌜ r ≡ record { phase = phaseOf state b; consumed = consumed; written = written; starved = starved } ⌝ }
+{
+    let position = b.position;
+    let remembered = b.remembered;
+    let number = b.number;
+    Ran {
+        phase: Phase::Body(state.moved(position, remembered), number),
+        consumed,
+        written,
+        starved,
+    }
+}
+
+// Takes lines of the body as long as there is a whole one, and room for what it may print. The first bytes of start are the front of all lines.
+fn take_body(
+    start: &mut [u8],
+    front_len: usize,
+    state: State,
+    number: u64,
+    input: &[u8],
+    ended: bool,
+    asns: &mut [u32; 16384],
+    out: &mut [u8],
+) -> Ran
+    requires { ⌜ Fine state (state .remembered) ⌝ }
+    requires { ⌜ Begins (frontOf state) (now start) «front_len» (state .remembered) 0 ⌝ }
+    ensures { λ r. ⌜ Runs (phase.Body state number) (now (input .entry)) ended (now (out .entry)) r (now (out .exit)) ⌝ }
+{
+    let remembered = state.remembered;
+    let position = state.position;
+    let mut b = Place {
+        remembered,
+        position,
+        number,
+        start_len: 0,
+    };
+    let mut consumed = 0;
+    let mut written = 0;
+    while 65537 <= out.len() - written {
+        let step = take_body_line(
+            start,
+            front_len,
+            state,
+            b,
+            &input[consumed..],
+            ended,
+            asns,
+            &mut out[written..],
+        );
+        match step {
+            BodyStep::Starved => {
+                return body_ran(state, b, consumed, written, true);
+            }
+            BodyStep::Stops(n) => {
+                let all = written + n;
+                return Ran {
+                    phase: Phase::Stopped,
+                    consumed,
+                    written: all,
+                    starved: false,
+                };
+            }
+            BodyStep::Took(bytes, n, next) => {
+                b = next;
+                consumed += bytes;
+                written += n;
+            }
+        }
+    }
+    body_ran(state, b, consumed, written, false)
+}
+
 // 01's AS places.
 fn places() -> [u32; 16384] {
     [0; 16384]
 }
 
-// Prints what the lines of the table begin with, if one is being read: how many bytes it has.
-fn put_start(phase: Phase, out: &mut [u8]) -> usize
-    ensures { λ r. ⌜ (r ≤ length (now (out .exit))) × Begins (take r (now (out .exit))) phase ⌝ }
+// Prints what the lines of a table begin with: how many bytes it has.
+fn put_start(state: State, out: &mut [u8]) -> usize
+    ensures { λ r. ⌜ Begins (frontOf state) (now (out .exit)) r (state .remembered) 0 ⌝ }
 {
-    let Phase::Body(state, _) = phase else {
-        return 0;
-    };
     let timestamp = state.timestamp;
     let peer_ip = state.peer_ip;
     let peer_asn = state.peer_asn;
@@ -369,14 +648,43 @@ fn put_start(phase: Phase, out: &mut [u8]) -> usize
     n
 }
 
-// The lines of a table begin with the same text, which is printed once. A run that comes to the body from the header prints each line whole.
+fn run_body(state: State, number: u64, input: &[u8], ended: bool, out: &mut [u8]) -> Ran
+    requires { ⌜ Fine state (state .remembered) ⌝ }
+    ensures { λ r. ⌜ Runs (phase.Body state number) (now (input .entry)) ended (now (out .entry)) r (now (out .exit)) ⌝ }
+{
+    let mut asns = places();
+    let mut start = [0u8; 160];
+    let n = put_start(state, &mut start);
+    take_body(&mut start, n, state, number, input, ended, &mut asns, out)
+}
+
 pub fn run(phase: Phase, input: &[u8], ended: bool, out: &mut [u8]) -> Ran
     ensures { λ r. ⌜ Runs phase (now (input .entry)) ended (now (out .entry)) r (now (out .exit)) ⌝ }
 {
-    let mut asns = places();
-    let mut start = [0u8; 90];
-    let n = put_start(phase, &mut start);
-    take_lines(&start[..n], phase, input, ended, &mut asns, out)
+    let head = take_head(phase, input, ended, out);
+    let next = head.phase;
+    if is_head(next) {
+        return head;
+    }
+    let Phase::Body(state, number) = next else {
+        return head;
+    };
+    let consumed = head.consumed;
+    let written = head.written;
+    let body = run_body(
+        state,
+        number,
+        &input[consumed..],
+        ended,
+        &mut out[written..],
+    );
+    let last = body.phase;
+    Ran {
+        phase: last,
+        consumed: consumed + body.consumed,
+        written: written + body.written,
+        starved: body.starved,
+    }
 }
 
 // Moves the bytes from..end to the front, for more input to come behind them: how many they are.

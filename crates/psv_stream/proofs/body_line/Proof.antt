@@ -1,22 +1,13 @@
-use native.Mathlib.Omega.{arith}
-use lib.ListN.{length-take}
-use Rattle.psv_stream.proofs.Lines.{passed-line, five, six, seven, element-answer}
-use Rattle.psv_stream.proofs.Begins.{element-starts}
+use Rattle.psv_stream.proofs.Bodies.{six, passed, passed-keeps, wrapped, wrapped-keeps, its-line}
 use borrow.Author.Needs.{needs}
 use Rattle.psv_stream.proofs.body_line.Statement.{statement}
 use Rattle.psv_stream.proofs.body_line.Tie as tie
 
-turn-requires : tie.Need-turn-requires
-turn-requires c κs = search needs
+wrapping-add-u64-requires : tie.Need-wrapping-add-u64-requires
+wrapping-add-u64-requires c κs = search needs
 
-slice-aggregate-next : tie.Need-slice-aggregate-next
-slice-aggregate-next c = simp length-take (omega arith)
-
-next-requires : tie.Need-next-requires
-next-requires c κs = search needs
-
-enum-known-answer : tie.Need-enum-known-answer
-enum-known-answer c = search needs
+line-of-requires : tie.Need-line-of-requires
+line-of-requires c κs = search needs
 
 enum-told : tie.Need-enum-told
 enum-told c = search needs
@@ -27,75 +18,52 @@ refuse-requires c κs = search needs
 enum-told-2 : tie.Need-enum-told-2
 enum-told-2 c = search needs
 
-refuse-requires-2 : tie.Need-refuse-requires-2
-refuse-requires-2 c κs = search needs
+enum-known-read : tie.Need-enum-known-read
+enum-known-read c = search needs
 
-enum-told-3 : tie.Need-enum-told-3
-enum-told-3 c = search needs
+enum-known-read-2 : tie.Need-enum-known-read-2
+enum-known-read-2 c = search needs
 
-refuse-requires-3 : tie.Need-refuse-requires-3
-refuse-requires-3 c κs = search needs
-
-enum-known-answer-2 : tie.Need-enum-known-answer-2
-enum-known-answer-2 c = search needs
-
-element-line-requires : tie.Need-element-line-requires
-element-line-requires c κs = (
-  search needs,
-  element-starts (c .before .before .before .before .before .before .before .before .before .before .before .before .before .args .state) _ _ _ _ _ _ (c .before .before .before .before .before .before .before .before .before .turn .ensures) (c .before .before .before .before .before .before .next .ensures) _ _ (c .before .before .before .before .answer2 .given .1) _ (c .before .before .before .before .before .before .before .before .before .before .before .before .before .pre .1 .1),
-)
-
-returns : tie.Need-returns
-returns c = search passed-line
+route-line-requires : tie.Need-route-line-requires
+route-line-requires c κs = (search needs, (search needs, (search its-line, search needs)))
 
 same-length : tie.Need-same-length
 same-length c = search needs
 
+returns : tie.Need-returns
+returns c = (search six, tt)
+
 returns-2 : tie.Need-returns-2
-returns-2 c = search five
+returns-2 c = (search passed, search passed-keeps)
+
+returns-3 : tie.Need-returns-3
+returns-3 c = (search wrapped, search wrapped-keeps)
 
 same-length-2 : tie.Need-same-length-2
 same-length-2 c = search needs
-
-returns-3 : tie.Need-returns-3
-returns-3 c = search six
 
 same-length-3 : tie.Need-same-length-3
 same-length-3 c = search needs
 
 returns-4 : tie.Need-returns-4
-returns-4 c = search seven
-
-same-length-4 : tie.Need-same-length-4
-same-length-4 c = search needs
-
-returns-5 : tie.Need-returns-5
-returns-5 c =
-    element-answer (c .before .before .before .before .before .before .before .before .before .before .before .before .before .before .before .before .args .input .now) (c .before .before .before .before .before .before .before .before .before .before .before .before .before .before .before .before .args .end) (c .before .before .before .before .before .before .before .before .before .before .before .before .before .before .before .before .args .out .now) (c .before .before .before .before .before .before .before .before .before .before .before .before .before .before .before .before .args .state) (c .before .before .before .before .before .before .before .before .before .before .before .before .turn .result) (c .before .before .before .before .before .before .before .before .before .before .before .before .before .before .before .before .args .number) _ (c .before .before .before .before .before .before .before .before .before .before .before .before .turn .ensures) (search needs) _ (c .before .before .before .before .before .before .before .before .before .next .result) _ (c .before .before .before .before .before .before .before .before .before .next .ensures)
-    _ _ (c .before .before .before .before .before .before .before .answer2 .given .1) _ (c .before .before .element-line .result) (c .before .before .element-line .ensures)
+returns-4 c = c .before .before .before .before .route-line .ensures
 
 pub body-line-spec : {M : Type 1} → statement M
 body-line-spec =
     tie.close
     (tie.spec
-    turn-requires
-    slice-aggregate-next
-    next-requires
-    enum-known-answer
+    wrapping-add-u64-requires
+    line-of-requires
     enum-told
     refuse-requires
     enum-told-2
-    refuse-requires-2
-    enum-told-3
-    refuse-requires-3
-    enum-known-answer-2
-    element-line-requires
-    returns
+    enum-known-read
+    enum-known-read-2
+    route-line-requires
     same-length
+    returns
     returns-2
-    same-length-2
     returns-3
+    same-length-2
     same-length-3
-    returns-4
-    same-length-4
-    returns-5)
+    returns-4)

@@ -1,5 +1,4 @@
 use Rattle.psv_stream.proofs.Lines.{on-path, on-header, on-body, on-stopped}
-use Rattle.psv_stream.proofs.Begins.{body-starts}
 use borrow.Author.Needs.{needs}
 use Rattle.psv_stream.proofs.on_line.Statement.{statement}
 use Rattle.psv_stream.proofs.on_line.Tie as tie
@@ -25,8 +24,8 @@ enum-known-phase-2 c = search needs
 wrapping-add-u64-requires-2 : tie.Need-wrapping-add-u64-requires-2
 wrapping-add-u64-requires-2 c κs = search needs
 
-body-line-requires : tie.Need-body-line-requires
-body-line-requires c κs = (search needs, (search needs, search body-starts))
+refuse-requires : tie.Need-refuse-requires
+refuse-requires c κs = search needs
 
 enum-told-2 : tie.Need-enum-told-2
 enum-told-2 c = search needs
@@ -63,7 +62,7 @@ on-line-spec =
     header-line-requires
     enum-known-phase-2
     wrapping-add-u64-requires-2
-    body-line-requires
+    refuse-requires
     enum-told-2
     same-length
     returns

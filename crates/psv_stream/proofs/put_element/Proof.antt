@@ -5,14 +5,14 @@ use borrow.Author.Needs.{needs}
 use Rattle.psv_stream.proofs.put_element.Statement.{statement}
 use Rattle.psv_stream.proofs.put_element.Tie as tie
 
-slice-relend-prefix-print-element : tie.Need-slice-relend-prefix-print-element
-slice-relend-prefix-print-element c = search needs
+slice-relend-prefix-to-psv : tie.Need-slice-relend-prefix-to-psv
+slice-relend-prefix-to-psv c = search needs
 
-slice-aggregate-print-element : tie.Need-slice-aggregate-print-element
-slice-aggregate-print-element c = simp length-take (omega arith)
+slice-aggregate-to-psv : tie.Need-slice-aggregate-to-psv
+slice-aggregate-to-psv c = simp length-take (omega arith)
 
-print-element-requires : tie.Need-print-element-requires
-print-element-requires c κs = search needs
+to-psv-requires : tie.Need-to-psv-requires
+to-psv-requires c κs = search needs
 
 enum-known-put : tie.Need-enum-known-put
 enum-known-put c = search needs
@@ -48,9 +48,9 @@ pub put-element-spec : {M : Type 1} → statement M
 put-element-spec =
     tie.close
     (tie.spec
-    slice-relend-prefix-print-element
-    slice-aggregate-print-element
-    print-element-requires
+    slice-relend-prefix-to-psv
+    slice-aggregate-to-psv
+    to-psv-requires
     enum-known-put
     write-byte-requires
     enum-told

@@ -1,0 +1,13 @@
+use Rattle.psv_stream.proofs.Bodies.{ran}
+use borrow.Author.Needs.{needs}
+use Rattle.psv_stream.proofs.body_ran.Statement.{statement}
+use Rattle.psv_stream.proofs.body_ran.Tie as tie
+
+moved-requires : tie.Need-moved-requires
+moved-requires c κs = search needs
+
+returns : tie.Need-returns
+returns c = search ran
+
+pub body-ran-spec : {M : Type 1} → statement M
+body-ran-spec = tie.close (tie.spec moved-requires returns)
