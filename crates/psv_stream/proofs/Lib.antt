@@ -1,5 +1,6 @@
 pub mod Fronts
 pub mod Texts
+pub mod Copying
 pub mod Begins
 pub mod Lines
 pub mod Steps

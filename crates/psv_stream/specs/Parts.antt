@@ -5,12 +5,16 @@ use mathlib.Core.Bool.{Bool, true, false}
 use mathlib.Core.List.{List, [], _∷_, _++_}
 use lib.ListN.{length, take, drop}
 use Rattle.scan.specs.Lines.{lines, lineEnd}
+use Rattle.output.specs.declared.Put.{Put}
+use Rattle.output.specs.declared.Put.the-variants as written
 use Rattle.elem.specs.Element.{spoilt}
 use Rattle.elem.specs.declared.Element.{Element}
-use Rattle.psv.specs.Line.{psvText, frontText}
+use Rattle.psv.specs.Line.{sequenceText, asnText, psvText, frontText, textsLine}
 use Rattle.psv.specs.declared.ElementPut.{ElementPut}
 use Rattle.psv.specs.declared.ElementPut.the-variants as put
 use Rattle.timestamp.specs.Dates.{inferTimestamp}
+use Rattle.path_text.specs.Path.{asnsOf}
+use Rattle.text_dump.specs.Rules.{originAsn}
 use Rattle.text_dump.specs.Open.{openOf}
 use Rattle.text_dump.specs.declared.State.{State}
 use Rattle.psv_stream.specs.Printed.{header, stopped, feed}
@@ -19,6 +23,8 @@ use Rattle.psv_stream.specs.declared.Phase.{Phase}
 use Rattle.psv_stream.specs.declared.Phase.the-variants.{Path, Header, Body, Stopped}
 use Rattle.psv_stream.specs.declared.Front.{Front}
 use Rattle.psv_stream.specs.declared.Front.the-variants as front
+use Rattle.psv_stream.specs.declared.PlainPath.{PlainPath}
+use Rattle.psv_stream.specs.declared.PlainPath.the-variants as plain
 use Rattle.psv_stream.specs.declared.Step.{Step}
 use Rattle.psv_stream.specs.declared.Step.the-variants as step
 use Rattle.psv_stream.specs.Run.{headerBytes, stageOf, Later, Prints, Starved}
@@ -87,6 +93,29 @@ abbrev pub PutElement : Element → List ℕ → List ℕ → List ℕ → Eleme
 PutElement e asns out new (put.Wrote w) = (spoilt e asns ≡ false) × (length (psvText e asns) ≤ 65536) × Puts (psvText e asns ++ feed) out new w
 PutElement e asns out new put.Spoilt = (spoilt e asns ≡ true) × (new ≡ out)
 PutElement e asns out new put.TooShort = (spoilt e asns ≡ false) × (65536 < length (psvText e asns)) × (new ≡ out)
+
+-- a path's bytes up to `end` are what its numbers print as, and those from `last` on what the last of them prints as
+pub record Spells (path : List ℕ) (last end : ℕ) : Type 0 where
+  pub inside : end ≤ length path
+  pub order : last ≤ end
+  pub text : take end path ≡ sequenceText (asnsOf path)
+  pub asn : take (end - last) (drop last path) ≡ asnText (originAsn (asnsOf path))
+  pub few : length (asnsOf path) ≤ length path
+
+-- what is told of a plain path; of others nothing is
+abbrev pub IsPlain : List ℕ → PlainPath → Type 0
+IsPlain path (plain.Text last end) = Spells path last end
+IsPlain path plain.Other = Unit {0}
+
+-- textsLine (psv: specs/Line.antt) of the texts that the path's numbers print as
+abbrev pub copiedText : List ℕ → List ℕ → Element → List ℕ
+copiedText begin path e = textsLine begin (sequenceText (asnsOf path)) (asnText (originAsn (asnsOf path))) e
+
+-- a route's line put together from texts: begin, the path as its numbers print, the last of them, and the attributes of e; where it is not, nothing is written
+abbrev pub Copies : List ℕ → List ℕ → Element → List ℕ → List ℕ → Put → Type 0
+Copies begin path e out new (written.Wrote w) =
+    (length (asnsOf path) ≤ 16384) × (length (copiedText begin path e) ≤ 65536) × Puts (copiedText begin path e ++ feed) out new w
+Copies begin path e out new written.TooShort = new ≡ out
 
 -- a line that ends at e does what z says
 abbrev pub Does : P.Step → List ℕ → ℕ → List ℕ → List ℕ → Step → Type 0
