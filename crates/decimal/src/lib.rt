@@ -147,7 +147,7 @@ fn marks(w: u64) -> u64
 }
 
 // As many digits are at the front of a word's bytes as stand in front of the first mark.
-fn digit_count(w: u64) -> usize
+pub fn digit_count(w: u64) -> usize
     ensures { λ r. ⌜ r ≡ length (leading (littleEndian w)) ⌝ }
 {
     (u64::trailing_zeros(marks(w)) / 8) as usize

@@ -1,17 +1,19 @@
--- What is printed reads back.
-use mathlib.Core.Path.{_≡_, refl, ap, _∙_}
+-- What is printed reads back, and what is read prints again.
+use mathlib.Core.Path.{_≡_, refl, sym, ap, _∙_}
 use mathlib.Core.Bool.{Bool, true, false}
+use mathlib.Core.List.{List, [], _∷_, _++_, append-nil}
 use mathlib.Core.Option.{some}
-use Prim.Native.Nat.{ℕ, zero, suc, _+_, _*_, _/_, _%_, _^_, _≤_, _<_}
+use Prim.Native.Nat.{ℕ, zero, suc, _+_, _-_, _*_, _/_, _%_, _^_, _≤_, _<_}
 use native.Mathlib.Omega.{arith}
 use lib.ListN.{getD, List·getD-append}
+use lib.Seq.{append-snoc}
 use lib.Dec.{ltb}
 use borrow.Author.Tests.{ltb-true, ltb-false, lt-ltb}
-use Rattle.decimal.specs.Decimal.{digits, unsigned, below, readU32, readU64}
+use Rattle.decimal.specs.Decimal.{isDigit, behind, digits, unsigned, below, readU32, readU64}
 use Rattle.decimal_display.specs.Printed.{decimal}
 use Rattle.decimal.specs.declared.U64Read.the-variants.{Number}
 use Rattle.decimal.specs.declared.U32Read.the-variants.{Number as Number32}
-use Rattle.decimal.proofs.Laws.{digits-one, digits-snoc, unsigned-digits}
+use Rattle.decimal.proofs.Laws.{none-some, digit-low, digit-high, behind-cons, digits-one, digits-snoc, unsigned-digits}
 use Rattle.decimal_display.proofs.Printed.{decimal-short, decimal-long, length-pos}
 
 -- a fact of all numbers, by their last digit: it holds of one digit, and behind a number of which it holds
@@ -57,3 +59,25 @@ no-leading-zero = by-digits (λ n. 1 ≤ n → 48 < getD (decimal n) 0 0) one mo
 
     more : (n : ℕ) → 10 ≤ n → (1 ≤ n / 10 → 48 < getD (decimal (n / 10)) 0 0) → 1 ≤ n → 48 < getD (decimal n) 0 0
     more n h ih l = rw (decimal-long n h, List·getD-append (decimal (n / 10)) _ 0 0 (length-pos (n / 10))) (ih (omega arith))
+
+-- the other way: digits that begin with no '0' are what their number prints as
+behind-printed : (u v : ℕ) (s : List ℕ) → 1 ≤ u → behind u s ≡ some v → decimal u ++ s ≡ decimal v
+unfolding behind
+behind-printed u v [] h e = let z : u ≡ v = cc in rw z (append-nil (decimal v))
+behind-printed u v (b ∷ s) h e =
+    let f : (isDigit b ≡ true) × (behind (u * 10 + (b - 48)) s ≡ some v) = behind-cons u b v s e in
+    let l : (48 ≤ b) × (b ≤ 57) = (digit-low b (f .0), digit-high b (f .0)) in
+    let tens : (u * 10 + (b - 48)) / 10 ≡ u = omega arith in
+    let ones : 48 + (u * 10 + (b - 48)) % 10 ≡ b = omega arith in
+    let more : decimal (u * 10 + (b - 48)) ≡ decimal u ++ (b ∷ []) = decimal-long (u * 10 + (b - 48)) (omega arith) ∙ rw (tens, ones) in
+    sym (append-snoc (decimal u) b s) ∙ rw (← more) (behind-printed (u * 10 + (b - 48)) v s (omega arith) (f .1))
+
+pub digits-printed : (v : ℕ) (s : List ℕ) → digits s ≡ some v → (getD s 0 0 ≡ 48 → ⊥) → s ≡ decimal v
+unfolding digits
+digits-printed v [] e n = absurd (none-some e)
+digits-printed v (b ∷ s) e n =
+    let f : (isDigit b ≡ true) × (behind (0 * 10 + (b - 48)) s ≡ some v) = behind-cons 0 b v s e in
+    let l : (48 ≤ b) × (b ≤ 57) = (digit-low b (f .0), digit-high b (f .0)) in
+    let one : 48 + (0 * 10 + (b - 48)) ≡ b = omega arith in
+    let first : decimal (0 * 10 + (b - 48)) ≡ b ∷ [] = decimal-short (0 * 10 + (b - 48)) (omega arith) ∙ rw one in
+    rw first at (behind-printed (0 * 10 + (b - 48)) v s (omega (arith, n)) (f .1))

@@ -1,5 +1,6 @@
 pub mod Fronts
 pub mod Texts
+pub mod Copying
 pub mod Lines
 pub mod Steps
 pub mod Runs

@@ -100,6 +100,23 @@ module _ (out : List ℕ) (room : 65537 ≤ length out) where
         let l : o ≡ headerText ++ drop (length headerText) out = told .1 ∙ rw header-fits in
         with-feed headerText out new w (omega (arith, header-length)) (rw (l, k) at v)
 
+-- a text put to the first 65,536 bytes, and a line feed behind it
+module _ (out part : List ℕ) (room : 65537 ≤ length out) where
+  part-length : length (take 65536 out) ≡ 65536
+  part-length = simp length-take (omega arith)
+
+  pub part-put : (t : List ℕ) → leb (length t) (length (take 65536 out)) ≡ true → part ≡ t ++ drop (length t) (take 65536 out) → (new : List ℕ) (w : ℕ)
+      → Written feed (part ++ drop 65536 out) (length t) new w → (length t ≤ 65536) × Puts (t ++ feed) out new w
+  part-put t e l new w v =
+      let h : length t ≤ 65536 = omega (arith, part-length, leb-true (length t) (length (take 65536 out)) e) in
+      let o : part ++ drop 65536 out ≡ t ++ drop (length t) out =
+      rw (l, append-assoc, ← drop-append-le (length t) (take 65536 out) (drop 65536 out) (omega (arith, part-length)), take-append-drop) in
+      (h, with-feed t out new w (omega arith) (rw o at v))
+
+  -- and where there is no room for it
+  pub whole-again : part ≡ take 65536 out → part ++ drop 65536 out ≡ out
+  whole-again f = rw f (take-append-drop 65536 out)
+
 -- an element's line, printed to the first 65,536 bytes
 wrote : (s b : Bool) (n m : ℕ) → put.Wrote n ≡ cond s put.Spoilt (cond b (put.Wrote m) put.TooShort) → (s ≡ false) × (b ≡ true) × (n ≡ m)
 wrote true b n m e = let y : _≡_ {A = ℕ} 0 1 = cc in absurd (omega arith)
@@ -117,32 +134,29 @@ told-short false true m e = let y : _≡_ {A = ℕ} 0 1 = cc in absurd (omega ar
 told-short false false m e = (refl, refl)
 
 module _ (e : Element) (asns out part : List ℕ) (r : ElementPut) (room : 65537 ≤ length out) (p : Printed (spoilt e asns) (psvText e asns) (take 65536 out) r part) where
-  part-length : length (take 65536 out) ≡ 65536
-  part-length = simp length-take (omega arith)
+  abbrev text : List ℕ
+  text = psvText e asns
 
   pub element-put : (n : ℕ) → r ≡ put.Wrote n → (new : List ℕ) (w : ℕ) → Written feed (part ++ drop 65536 out) n new w → PutElement e asns out new (put.Wrote w)
   unfolding front
   element-put n f new w v =
-      let z = wrote (spoilt e asns) (leb (length (psvText e asns)) (length (take 65536 out))) n (length (psvText e asns)) (sym f ∙ p .told) in
-      let h : length (psvText e asns) ≤ 65536 = omega (arith, part-length, leb-true (length (psvText e asns)) (length (take 65536 out)) (z .1)) in
-      let l : part ≡ psvText e asns ++ drop (length (psvText e asns)) (take 65536 out) = p .left ∙ rw (z .0, z .1) in
-      let o : part ++ drop 65536 out ≡ psvText e asns ++ drop (length (psvText e asns)) out =
-      rw (l, append-assoc, ← drop-append-le (length (psvText e asns)) (take 65536 out) (drop 65536 out) (omega (arith, part-length)), take-append-drop) in
-      (z .0, h, with-feed (psvText e asns) out new w (omega arith) (rw (o, z .2) at v))
-
-  whole-again : part ≡ take 65536 out → part ++ drop 65536 out ≡ out
-  whole-again f = rw f (take-append-drop 65536 out)
+      let z = wrote (spoilt e asns) (leb (length text) (length (take 65536 out))) n (length text) (sym f ∙ p .told) in
+      let y = part-put out part room text (z .1) (p .left ∙ rw (z .0, z .1)) new w (rw (z .2) at v) in
+      (z .0, y .0, y .1)
 
   pub element-spoilt : r ≡ put.Spoilt → PutElement e asns out (part ++ drop 65536 out) put.Spoilt
   element-spoilt f =
-      let z = told-spoilt (spoilt e asns) (leb (length (psvText e asns)) (length (take 65536 out))) (length (psvText e asns)) (sym f ∙ p .told) in
-      (z, whole-again (p .left ∙ rw z))
+      let z = told-spoilt (spoilt e asns) (leb (length text) (length (take 65536 out))) (length text) (sym f ∙ p .told) in
+      (z, whole-again out part room (p .left ∙ rw z))
 
   pub element-short : r ≡ put.TooShort → PutElement e asns out (part ++ drop 65536 out) put.TooShort
   unfolding front
   element-short f =
-      let z = told-short (spoilt e asns) (leb (length (psvText e asns)) (length (take 65536 out))) (length (psvText e asns)) (sym f ∙ p .told) in
-      (z .0, omega (arith, part-length, leb-false (length (psvText e asns)) (length (take 65536 out)) (z .1)), whole-again (p .left ∙ rw (z .0, z .1)))
+      let z = told-short (spoilt e asns) (leb (length text) (length (take 65536 out))) (length text) (sym f ∙ p .told) in (
+        z .0,
+        omega (arith, part-length out part room, leb-false (length text) (length (take 65536 out)) (z .1)),
+        whole-again out part room (p .left ∙ rw (z .0, z .1)),
+      )
 
 -- only the first so many of the lent AS numbers are the element's
 few : (n : ℕ) (l : List ℕ) → ltb (length (take n l)) n ≡ ltb (length l) n

@@ -31,6 +31,8 @@ use Rattle.psv_stream.specs.declared.Phase.{Phase}
 use Rattle.psv_stream.specs.declared.Phase.the-variants.{Path, Header, Body, Stopped}
 use Rattle.psv_stream.specs.declared.Front.{Front}
 use Rattle.psv_stream.specs.declared.Front.the-variants as front
+use Rattle.psv_stream.specs.declared.PlainPath.{PlainPath}
+use Rattle.psv_stream.specs.declared.PlainPath.the-variants as plainPath
 use Rattle.psv_stream.specs.declared.Step.{Step}
 use Rattle.psv_stream.specs.declared.Step.the-variants as step
 use Rattle.psv_stream.specs.declared.Ran.{Ran}
@@ -87,6 +89,29 @@ PutElement e asns out new (put.Wrote w) = (spoiltElement e asns ≡ false) × (l
 PutElement e asns out new put.Spoilt = (spoiltElement e asns ≡ true) × (new ≡ out)
 PutElement e asns out new put.TooShort = (spoiltElement e asns ≡ false) × (65536 < length (psvText e asns)) × (new ≡ out)
 
+-- a path's bytes up to `end` are what its numbers print as, and those from `last` on what the last of them prints as
+pub record Spells (path : List ℕ) (last end : ℕ) : Type 0 where
+  pub inside : end ≤ length path
+  pub order : last ≤ end
+  pub text : take end path ≡ sequenceText (asnsOf path)
+  pub asn : take (end - last) (drop last path) ≡ asnText (originAsn (asnsOf path))
+  pub few : length (asnsOf path) ≤ length path
+
+-- what is told of a plain path; of others nothing is
+abbrev pub IsPlain : List ℕ → PlainPath → Type 0
+IsPlain path (plainPath.Text last end) = Spells path last end
+IsPlain path plainPath.Other = Unit {0}
+
+-- textsLine (psv: specs/Line.antt) of the texts that the path's numbers print as
+abbrev pub copiedText : List ℕ → List ℕ → Element → List ℕ
+copiedText begin path e = textsLine begin (sequenceText (asnsOf path)) (asnText (originAsn (asnsOf path))) e
+
+-- a route's line put together from texts: begin, the path as its numbers print, the last of them, and the attributes of e; where it is not, nothing is written
+abbrev pub Copies : List ℕ → List ℕ → Element → List ℕ → List ℕ → Put → Type 0
+Copies begin path e out new (written.Wrote w) =
+    (length (asnsOf path) ≤ 16384) × (length (copiedText begin path e) ≤ 65536) × Puts (copiedText begin path e ++ feed) out new w
+Copies begin path e out new written.TooShort = new ≡ out
+
 -- a line that ends at e does what z says
 abbrev pub Does : P.Step → List ℕ → ℕ → List ℕ → List ℕ → Step → Type 0
 Does z s e out new (step.Took c w q) = Puts (z .0) out new w × (z .1 ≡ stageOf q (drop c s)) × (c + headerBytes q ≡ e)
@@ -136,16 +161,6 @@ PutRoute σ p e asns out new (route.Refused k) = ((n : ℕ) (u : State) → rout
 abbrev pub PutCopy : State → NetworkPrefix → RouteEntry → List ℕ → List ℕ → List ℕ → Put → Type 0
 PutCopy σ p e asns out new (written.Wrote w) = PutRoute σ p e asns out new (route.Wrote w)
 PutCopy σ p e asns out new written.TooShort = new ≡ out
-
--- textsLine (psv: specs/Line.antt) of the texts that the path's numbers print as
-abbrev pub copiedText : List ℕ → List ℕ → Element → List ℕ
-copiedText begin path e = textsLine begin (sequenceText (asnsOf path)) (asnText (originAsn (asnsOf path))) e
-
--- a route's line put together from texts: begin, the path as its numbers print, the last of them, and the attributes of e; where it is not, nothing is written
-abbrev pub Copies : List ℕ → List ℕ → Element → List ℕ → List ℕ → Put → Type 0
-Copies begin path e out new (written.Wrote w) =
-    (length (asnsOf path) ≤ 16384) × (length (copiedText begin path e) ≤ 65536) × Puts (copiedText begin path e ++ feed) out new w
-Copies begin path e out new written.TooShort = new ≡ out
 
 -- What the lines of the body begin with.
 

@@ -15,7 +15,7 @@ ghost use Rattle.text_dump.specs.declared.Remembered.the-variants as remembered
 ghost use Rattle.text_dump.specs.Open.{openOf};
 ghost use Rattle.psv_stream.specs.Printed.{feed, refusalText, dated, scanned};
 ghost use Rattle.psv_stream.specs.Run.{headerBytes, Runs, keptLength, kept};
-ghost use Rattle.psv_stream.specs.Parts.{acts, isHead, frontOf, Puts, PutElement, Copies, PutRoute, PutCopy, Fine, Begins, keptLen, Kept, BodyDoes, Keeps, phaseOf, stepOf, Ends, TooLong, Does, Fronts, Steps, Heads};
+ghost use Rattle.psv_stream.specs.Parts.{acts, isHead, frontOf, Puts, PutElement, IsPlain, Copies, PutRoute, PutCopy, Fine, Begins, keptLen, Kept, BodyDoes, Keeps, phaseOf, stepOf, Ends, TooLong, Does, Fronts, Steps, Heads};
 ghost use Rattle.psv_stream.specs.declared.Phase.the-variants as phase;
 use elem::Element;
 use elem::OptAsn;
@@ -341,12 +341,63 @@ fn print_numbers(
     }
 }
 
-// A route's line put together from texts: what it begins with, and its path's own text.
+// Where a plain path's last number begins, and where its text ends.
+enum PlainPath {
+    Text(usize, usize),
+    Other,
+}
+
+// A path as routers print it: numbers of at most seven digits that begin with no 0, a space behind each, and one byte more (the origin). Its
+// text is then what the numbers print as. Of other paths nothing is said.
+fn plain_path(path: &[u8]) -> PlainPath
+    ensures { λ r. ⌜ IsPlain (now (path .entry)) r ⌝ }
+{
+    let mut at = 0;
+    let mut last = 0;
+    loop {
+        let w = word::word_at(path, at);
+        let n = decimal::digit_count(w);
+        if n == 0 {
+            break;
+        }
+        if 7 < n {
+            return PlainPath::Other;
+        }
+        if (w >> (8 * n as u64)) % 256 != 32 {
+            return PlainPath::Other;
+        }
+        if w % 256 == 48 {
+            return PlainPath::Other;
+        }
+        last = at;
+        at = at + n + 1;
+    }
+    if at == 0 {
+        return PlainPath::Other;
+    }
+    if path.len() != at + 1 {
+        return PlainPath::Other;
+    }
+    PlainPath::Text(last, at - 1)
+}
+
+// The line of a route whose path is plain, with a line feed, behind what the line begins with; TooShort, and nothing written, where the path
+// is not plain or the line not surely short enough.
 fn copy_route(begin: &[u8], path: &[u8], e: Element, out: &mut [u8]) -> Put
     requires { ⌜ 65537 ≤ length (now out) ⌝ }
     ensures { λ r. ⌜ Copies (now (begin .entry)) (now (path .entry)) e (now (out .entry)) (now (out .exit)) r ⌝ }
 {
-    Put::TooShort
+    if 16384 < path.len() {
+        return Put::TooShort;
+    }
+    let PlainPath::Text(last, end) = plain_path(path) else {
+        return Put::TooShort;
+    };
+    let Put::Wrote(n) = psv::put_texts(begin, &path[..end], &path[last..end], e, &mut out[..65536])
+    else {
+        return Put::TooShort;
+    };
+    Put::Wrote(output::write_byte(b'\n', out, n))
 }
 
 // The same for a route under a prefix, if what its line begins with is printed.
