@@ -1,13 +1,13 @@
 -- What a line does that the loop over the head takes, and is not too long: the path line, a header line, a line under a spoilt state.
 use Prim.Native.Nat.{ℕ, _+_, _≤_, _<_}
-use mathlib.Core.Path.{_≡_, refl, sym, ap, _∙_}
+use mathlib.Core.Path.{_≡_, refl, ap, _∙_}
 use mathlib.Core.Bool.{Bool, true, false}
 use mathlib.Core.List.{List, _++_}
 use native.Mathlib.Omega.{arith}
 use lib.ListN.{length, take}
 use lib.IntN.{pos}
 use lib.Ieee.{Float, fin, binary64, ofBits}
-use borrow.Author.Tests.{lt-ltb, le-ltb, le-leb, lt-leb}
+use borrow.Author.Tests.{lt-ltb, le-ltb}
 use Rattle.timestamp.specs.Dates.{inferTimestamp}
 use Rattle.timestamp.specs.declared.Inferred.{Inferred}
 use Rattle.timestamp.specs.declared.Inferred.the-variants as inferred
@@ -18,7 +18,7 @@ use Rattle.text_dump.specs.Open.{told as toldOpened}
 use Rattle.text_dump.specs.declared.State.{State}
 use Rattle.text_dump.specs.declared.Opened.{Opened}
 use Rattle.text_dump.specs.declared.Opened.the-variants as opening
-use Rattle.psv_stream.specs.Printed.{path, header, body, feed, refusalText, refuse, dated, scanned, answered, after, nextOf}
+use Rattle.psv_stream.specs.Printed.{path, header, feed, refusalText, refuse, dated, scanned, after}
 use Rattle.psv_stream.specs.Printed as P
 use Rattle.psv_stream.specs.Parts.{Puts, Ends, TooLong, Does, acts, isHead}
 use Rattle.psv_stream.specs.declared.Phase.{Phase}

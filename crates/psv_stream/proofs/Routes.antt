@@ -2,7 +2,7 @@
 use Prim.Native.Nat.{ℕ, _+_, _-_, _≤_, _<_}
 use mathlib.Core.Path.{_≡_, refl, sym, ap, subst, _∙_}
 use mathlib.Core.Bool.{Bool, true, false, cond, not, _||_}
-use mathlib.Core.List.{List, [], _∷_, _++_, append-assoc}
+use mathlib.Core.List.{List, _++_, append-assoc}
 use native.Mathlib.Omega.{arith}
 use lib.ListN.{length, take, drop, length-append, length-take}
 use lib.Seq.{take-at, take-length}
@@ -19,7 +19,6 @@ use Rattle.network.specs.declared.NetworkPrefix.{NetworkPrefix}
 use Rattle.elem.specs.Element.{spoilt as spoiltElement}
 use Rattle.elem.specs.declared.Element.{Element}
 use Rattle.elem.specs.declared.OptAsn.{OptAsn}
-use Rattle.elem.specs.declared.OptAsn.the-variants as asn
 use Rattle.psv.specs.Line.{psvText, betweenText, sequenceText, asnText, attributesText, textsLine}
 use Rattle.psv.specs.declared.ElementPut.{ElementPut}
 use Rattle.psv.specs.declared.ElementPut.the-variants as put
@@ -33,14 +32,13 @@ use Rattle.text_dump_line.specs.declared.PrefixText.{PrefixText}
 use Rattle.text_dump_line.specs.declared.PrefixText.the-variants as prefix
 use Rattle.text_dump_line.specs.declared.RouteEntry.{RouteEntry}
 use Rattle.plain_reader.specs.Rules.{replace}
-use Rattle.text_dump.specs.State.{plain, stored, moved, spoilt}
+use Rattle.text_dump.specs.State.{plain, stored, spoilt}
 use Rattle.text_dump.specs.Rules.{textOf, originAsn, elementOf}
 use Rattle.text_dump.specs.declared.Remembered.{Remembered}
 use Rattle.text_dump.specs.declared.Remembered.the-variants as remembered
 use Rattle.text_dump.specs.declared.State.{State}
 use Rattle.text_dump.proofs.StateLaws.{stored-plain, first}
-use Rattle.psv_stream.specs.Printed.{feed}
-use Rattle.psv_stream.specs.Parts.{Puts, PutElement, elementFor, PutRoute, PutCopy, copiedText, Copies, frontOf, Fine, Begins, keptLen}
+use Rattle.psv_stream.specs.Parts.{PutElement, elementFor, PutRoute, PutCopy, copiedText, Copies, frontOf, Fine, Begins, keptLen}
 use Rattle.psv_stream.specs.declared.RoutePut.{RoutePut}
 use Rattle.psv_stream.specs.declared.RoutePut.the-variants as route
 use Rattle.psv_stream.proofs.Texts.{text-taken, spoilt-taken}
@@ -99,21 +97,26 @@ module _ (σ : State) (p : NetworkPrefix) (e : RouteEntry) (path old : List ℕ)
           let long : leb (length (psvText element (asnsOf path))) 65536 ≡ false = rw text at (lt-leb (length (psvText y new)) 65536 (h .1)) in
           (λ n u. rw (places-fit, fine, long), h .2)
 
--- from texts: an element of a reading is not spoilt, and only its attributes are looked at
-second : (a b : Bool) → (a || not b) ≡ false → b ≡ true
-second a true h = refl
-second true false h = let z : _≡_ {A = ℕ} 0 1 = cc in absurd (omega arith)
-second false false h = sym h
+-- an element of a reading is not spoilt
+module _ (σ : State) (p : NetworkPrefix) (e : RouteEntry) (ns : List ℕ) where
+  pub unspoilt : isTimestamp (σ .timestamp) ≡ true → validPrefix p ≡ true → spoiltElement (elementFor σ p e ns) ns ≡ false
+  unfolding spoiltElement
+  unspoilt time valid = rw (valid, time, le-ltb (length ns) (length ns) (omega arith))
 
-module _ (σ : State) (p : NetworkPrefix) (e : RouteEntry) where
-  unspoilt : Fine σ (remembered.Valid p) → (ns : List ℕ) → spoiltElement (elementFor σ p e ns) ns ≡ false
-  unfolding spoilt spoiltElement
-  unspoilt fine ns =
+  second : (a b : Bool) → (a || not b) ≡ false → b ≡ true
+  second a true h = refl
+  second true false h = let z : _≡_ {A = ℕ} 0 1 = cc in absurd (omega arith)
+  second false false h = sym h
+
+  fine-element : Fine σ (remembered.Valid p) → spoiltElement (elementFor σ p e ns) ns ≡ false
+  unfolding spoilt
+  fine-element fine =
       let rising : Bool = ltb 0 0 || not (areRising (σ .columns)) in
-      let time : isTimestamp (σ .timestamp) ≡ true = second rising (isTimestamp (σ .timestamp)) (first (rising || not (isTimestamp (σ .timestamp))) (not (validPrefix p)) fine) in
-      let valid : validPrefix p ≡ true = second (rising || not (isTimestamp (σ .timestamp))) (validPrefix p) fine in
-      rw (valid, time, le-ltb (length ns) (length ns) (omega arith))
+      let both : Bool = rising || not (isTimestamp (σ .timestamp)) in
+      unspoilt (second rising (isTimestamp (σ .timestamp)) (first both (not (validPrefix p)) fine)) (second both (validPrefix p) fine)
 
+-- from texts: of the element only its attributes are looked at
+module _ (σ : State) (p : NetworkPrefix) (e : RouteEntry) where
   module _ (begin path : List ℕ) (starts : begin ≡ frontOf σ ++ betweenText p) (o : OptAsn) (y : Element) (made : y ≡ elementOf σ p e 0 o) where
     abbrev element′ : Element
     element′ = elementFor σ p e (asnsOf path)
@@ -136,7 +139,7 @@ module _ (σ : State) (p : NetworkPrefix) (e : RouteEntry) where
       go : (r : Put) → Copies begin path y out new r → PutCopy σ p e (asnsOf path) out new r
       go (written.Wrote w) h =
           let short : leb (length (psvText (elementFor σ p e (asnsOf path)) (asnsOf path))) 65536 ≡ true = rw text at (le-leb (length (copiedText begin path y)) 65536 (h .1)) in
-          (λ n u. rw (le-leb (length (asnsOf path)) 16384 (h .0), unspoilt fine (asnsOf path), short), rw text at (h .2))
+          (λ n u. rw (le-leb (length (asnsOf path)) 16384 (h .0), fine-element σ p e (asnsOf path) fine, short), rw text at (h .2))
       go written.TooShort h = h
 
   -- the one or the other
@@ -178,9 +181,6 @@ module _ (start : List ℕ) (n : ℕ) (m : Remembered) (k : ℕ) where
         rw (z .0)
         (take-at (take n start ++ t) (drop (n + length t) start) r (rw (length-append, length-take) (omega (arith, z .1, b .front-inside)))
         ∙ ap (λ (x : List ℕ). x ++ t) (b .is-front (omega (arith, some))))
-
-pub kept-on : (start : List ℕ) (n : ℕ) (p : NetworkPrefix) (k : ℕ) (f : List ℕ) → Begins f start n (remembered.Valid p) k → Begins f start n (remembered.Valid p) k
-kept-on start n p k f b = b
 
 pub begun : (start new : List ℕ) (n k r : ℕ) (p : NetworkPrefix) → Written (betweenText p) start n new r → (n ≡ 0 → ⊥) → r < length new
     → (f : List ℕ) → Begins f start n (remembered.Valid p) k → Begins f new n (remembered.Valid p) r

@@ -14,7 +14,7 @@ use lib.Seq.{drop-drop, take-all, take-append-add, drop-append-add, getD-drop, p
 use lib.Dec.{leb}
 use borrow.Author.Tests.{le-leb, lt-leb}
 use Rattle.text_dump.specs.declared.State.{State}
-use Rattle.psv_stream.specs.Run.{headerBytes, Prints, Starved, Runs, keptLength, kept}
+use Rattle.psv_stream.specs.Run.{headerBytes, Starved, Runs, keptLength, kept}
 use Rattle.psv_stream.specs.Parts.{Steps, isHead, Came, Heads, Fine}
 use Rattle.psv_stream.specs.declared.Phase.{Phase}
 use Rattle.psv_stream.specs.declared.Phase.the-variants.{Path, Header, Body, Stopped}

@@ -1,7 +1,7 @@
 -- What is printed of a table of which no line is refused: the PSV lines of its elements, which are those of the joined body (demand 3).
 use Prim.Native.Nat.{ℕ, _+_, _-_, _≤_}
 use mathlib.Core.Path.{_≡_, refl, sym, ap, _∙_}
-use mathlib.Core.Bool.{true, false, not}
+use mathlib.Core.Bool.{true, false}
 use mathlib.Core.List.{List, [], _∷_, _++_, map, flatten, map-append, append-nil}
 use mathlib.Core.Option.{none}
 use native.Mathlib.Omega.{arith}
@@ -13,9 +13,7 @@ use Rattle.scan.proofs.LineLaws.{lines-append}
 use Rattle.timestamp.specs.Dates.{inferTimestamp}
 use Rattle.columns.specs.Columns.{areRising}
 use Rattle.seconds.specs.Seconds.{isTimestamp}
-use Rattle.network.specs.Prefix.{validPrefix}
 use Rattle.network.specs.declared.NetworkPrefix.{NetworkPrefix}
-use Rattle.elem.specs.Element.{spoilt}
 use Rattle.psv.specs.Line.{headerText}
 use Rattle.network.proofs.Valid.{read-valid}
 use Rattle.plain_reader.specs.Lists.{Each}
@@ -28,7 +26,7 @@ use Rattle.plain_reader.specs.Cursor.{view, located}
 use Rattle.plain_reader.proofs.ListLaws.{flatten-append}
 use Rattle.plain_reader.specs.Refinement.{Fits-prefix}
 use Rattle.text_dump.specs.State.{plain, moved, turned, cursor}
-use Rattle.text_dump.specs.Rules.{rules, elementOf, originAsn, WithAsns}
+use Rattle.text_dump.specs.Rules.{rules, WithAsns}
 use Rattle.text_dump.specs.Rules.{Route as RouteData}
 use Rattle.text_dump.specs.Next.{next, stepped}
 use Rattle.text_dump.specs.declared.State.{State}
@@ -40,6 +38,7 @@ use Rattle.text_dump.proofs.OpenLaws.{opened-rising, opened-time, opened-nothin
 use Rattle.psv_stream.specs.Printed.{body, feed, dated, answered, after, onLine, printedFrom, printed}
 use Rattle.psv_stream.specs.Printed as P
 use Rattle.psv_stream.specs.Table.{elementLine, Passes, HasRoom}
+use Rattle.psv_stream.proofs.Routes.{unspoilt}
 use Rattle.psv_stream.proofs.Opening.{singles, not-empty, header-printed}
 
 room-first : (a b : List WithAsns) → Each HasRoom (a ++ b) → Each HasRoom a
@@ -70,11 +69,6 @@ module _ (σ : State) (rising : areRising (σ .columns) ≡ true) (time : isTime
   next-one l invalid e h = rw (not-spoilt (at 0 invalid) l rising time (omega arith, tt), e)
   next-one l (valid p) e h = rw (not-spoilt (at 0 (valid p)) l rising time (omega arith, h), e)
 
-  -- an element of the reading is not spoilt
-  unspoilt : (p : NetworkPrefix) (r : RouteData) → validPrefix p ≡ true → spoilt (elementOf σ p (r .0) (length (r .1)) (originAsn (r .1))) (r .1) ≡ false
-  unfolding spoilt
-  unspoilt p r h = rw (h, time, le-ltb (length (r .1)) (length (r .1)) (omega arith))
-
   -- what it prints
   abbrev text : Remembered NetworkPrefix → List RouteData → List ℕ
   text m rs = flatten (map elementLine (under (rules σ) m rs))
@@ -94,7 +88,7 @@ module _ (σ : State) (rising : areRising (σ .columns) ≡ true) (time : isTime
     unfolding flatten
     does-route t m nothing r e f h room = (length l - 0, rw e)
     does-route t m invalid r e f h room = (length l - 0, rw e)
-    does-route t m (valid p) r e f h room = (length l - 0, rw (e, f) (rw (unspoilt p r h, le-leb _ 65536 (room .0)) (rw append-nil)))
+    does-route t m (valid p) r e f h room = (length l - 0, rw (e, f) (rw (unspoilt σ p (r .0) (r .1) time h, le-leb _ 65536 (room .0)) (rw append-nil)))
 
     does : (x : Plain NetworkPrefix RouteData) (m : Remembered NetworkPrefix) → Suffices (rules σ) 16384 x → Fits-prefix Fits (after-line m x)
         → Each HasRoom (under (rules σ) (after-line m x) (routes x)) → Does x m

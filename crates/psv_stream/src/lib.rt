@@ -699,6 +699,7 @@ fn put_start(state: State, out: &mut [u8]) -> usize
     n
 }
 
+// A run from the body on. What its lines begin with is printed once, the field of a prefix once for its lines.
 fn run_body(state: State, number: u64, input: &[u8], ended: bool, out: &mut [u8]) -> Ran
     requires { ⌜ Fine state (state .remembered) ⌝ }
     ensures { λ r. ⌜ Runs (phase.Body state number) (now (input .entry)) ended (now (out .entry)) r (now (out .exit)) ⌝ }
@@ -709,6 +710,7 @@ fn run_body(state: State, number: u64, input: &[u8], ended: bool, out: &mut [u8]
     take_body(&mut start, n, state, number, input, ended, &mut asns, out)
 }
 
+// The head, and then the body.
 pub fn run(phase: Phase, input: &[u8], ended: bool, out: &mut [u8]) -> Ran
     ensures { λ r. ⌜ Runs phase (now (input .entry)) ended (now (out .entry)) r (now (out .exit)) ⌝ }
 {
