@@ -50,7 +50,9 @@ loop-less : tie.Need-loop-less Inv-loop μ-loop
 loop-less c = omega (arith, in-path c)
 
 loop-again : tie.Need-loop-again Inv-loop μ-loop
-loop-again c = search (copied-more, c .before .before .before .before .before .before .before .shared-slice-known .given, needs)
+loop-again c =
+    let counted = c .before .before .before .before in
+    copied-more _ _ _ _ _ (counted .before .before .before .shared-slice-known .given) (counted .before .before .loop .inv) (counted .before .word-at .ensures) (counted .digit-count .ensures) (c .before .before .before .if1 .left) (c .before .before .if2 .left) (c .before .if3 .left) (c .if4 .left)
 
 returns-4 : tie.Need-returns-4 Inv-loop μ-loop
 returns-4 c = search needs
