@@ -30,6 +30,8 @@ use Rattle.text_dump.specs.declared.State.{State}
 use Rattle.text_dump.proofs.Remembered.{the-type}
 use Rattle.text_dump.proofs.StateLaws.{plain-stored, moved-cursor}
 use Rattle.text_dump.proofs.LineLaws.{turned-moved, spoilt-anywhere, fine-wrapped, fine-route, unreadable-line, passed-line, wrapped-line, other-route, yielding-route, long-route}
+use Rattle.packed.specs.Packed.{rememberedIn}
+use Rattle.packed.specs.declared.Packed.{Packed}
 use Rattle.psv_stream.specs.Printed.{body, refusalText, refuse, printedElement, answered, after, nextOf}
 use Rattle.psv_stream.specs.Run.{Runs}
 use Rattle.psv_stream.specs.Parts.{Puts, acts, Fronts, Steps, Came, elementFor, routed, PutRoute, frontOf, Begins, keptLen, stateOf, phaseOf, stepOf, Fine, Kept, Keeps, BodyDoes}
@@ -55,45 +57,45 @@ module _ (σ : State) (b : Place) (start : List ℕ) (n : ℕ) (kept : Kept σ s
   abbrev here : State
   here = stateOf σ b
 
-  abbrev there : ℕ → Remembered → ℕ → Place
-  there j m k = record { remembered = m; position = j; number = number; «start_len» = k }
+  abbrev there : ℕ → Packed → ℕ → Place
+  there j q k = record { position = j; number = number; «start_len» = k; memory = q }
 
   -- what is remembered is in the state, too
-  same : plain (here .remembered) ≡ plain (b .remembered)
-  same = plain-stored (plain (b .remembered))
+  same : plain (here .remembered) ≡ plain (rememberedIn (b .memory))
+  same = plain-stored (plain (rememberedIn (b .memory)))
 
   fine-here : spoilt (turned here) (length l) ≡ false
   fine-here =
       spoilt-anywhere here (length l) 0
-      ∙ ap (λ (z : State). spoilt z 0) (turned-moved σ (record { at = b .position; remembered = plain (b .remembered) }))
+      ∙ ap (λ (z : State). spoilt z 0) (turned-moved σ (record { at = b .position; remembered = plain (rememberedIn (b .memory)) }))
       ∙ kept .fine
 
   -- a line that only moves the state
-  moves : (m : Remembered) (k : ℕ) → nextOf here l ≡ (end, moved σ (record { at = length l; remembered = plain m })) → (out : List ℕ)
-      → BodyDoes σ b l out out (step.Took (length l) 0 (there (length l) m k))
-  moves m k f out s = rw (f, counted) (puts-none out, refl, omega arith)
+  moves : (q : Packed) (k : ℕ) → nextOf here l ≡ (end, moved σ (record { at = length l; remembered = plain (rememberedIn q) })) → (out : List ℕ)
+      → BodyDoes σ b l out out (step.Took (length l) 0 (there (length l) q k))
+  moves q k f out s = rw (f, counted) (puts-none out, refl, omega arith)
 
   module _ (y : Line) (c : y ≡ lineOf (σ .columns) l) where
     pub six : y ≡ read.Unreadable → (out new : List ℕ) (w : ℕ) → Puts (refusalText 6 number) out new w → BodyDoes σ b l out new (step.Stops w)
     six h out new w d s = refused-does s (length l) out (acts (phaseOf σ b) l) 6 number (rw (unreadable-line here l 16384 one fine-here y c h, counted)) new w d
 
-    pub passed : y ≡ read.Passed → (out : List ℕ) → BodyDoes σ b l out out (step.Took (length l) 0 (there (length l) (b .remembered) (b .«start_len»)))
+    pub passed : y ≡ read.Passed → (out : List ℕ) → BodyDoes σ b l out out (step.Took (length l) 0 (there (length l) (b .memory) (b .«start_len»)))
     passed h =
-        moves (b .remembered) (b .«start_len»)
+        moves (b .memory) (b .«start_len»)
         (passed-line here l 16384 one fine-here y c h ∙ ap (λ (m : Plain NetworkPrefix). (end, moved σ (record { at = length l; remembered = m }))) same)
 
-    pub passed-keeps : y ≡ read.Passed → Kept σ start n (there (length l) (b .remembered) (b .«start_len»))
+    pub passed-keeps : y ≡ read.Passed → Kept σ start n (there (length l) (b .memory) (b .«start_len»))
     passed-keeps h = record { fine = kept .fine; begins = kept .begins }
 
-    module _ (p : NetworkPrefix) (h : y ≡ read.Wrapped p) where
-      pub wrapped : (out : List ℕ) → BodyDoes σ b l out out (step.Took (length l) 0 (there (length l) (remembered.Valid p) 0))
-      wrapped = moves (remembered.Valid p) 0 (wrapped-line here l 16384 one fine-here y c p h)
+    module _ (p : NetworkPrefix) (h : y ≡ read.Wrapped p) (q : Packed) (v : rememberedIn q ≡ remembered.Valid p) where
+      pub wrapped : (out : List ℕ) → BodyDoes σ b l out out (step.Took (length l) 0 (there (length l) q 0))
+      wrapped = moves q 0 (wrapped-line here l 16384 one fine-here y c p h ∙ rw v)
 
-      pub wrapped-keeps : Kept σ start n (there (length l) (remembered.Valid p) 0)
+      pub wrapped-keeps : Kept σ start n (there (length l) q 0)
       wrapped-keeps =
           record {
-            fine = fine-wrapped here (length l) fine-here l y c 0 0 p h;
-            begins = none-begun start n (b .remembered) (b .«start_len») (remembered.Valid p) (frontOf σ) (kept .begins);
+            fine = rw v (fine-wrapped here (length l) fine-here l y c 0 0 p h);
+            begins = none-begun start n (rememberedIn (b .memory)) (b .«start_len») (rememberedIn q) (frontOf σ) (kept .begins);
           }
 
     -- a route's line is of that line
@@ -101,7 +103,10 @@ module _ (σ : State) (b : Place) (start : List ℕ) (n : ℕ) (kept : Kept σ s
     its-line x e h = sym h ∙ c
 
   -- a route
-  module _ (x : PrefixText) (e : RouteEntry) (c : read.Route x e ≡ lineOf (σ .columns) l) (m : Remembered) (g : plain m ≡ replace (textOf x) (plain (b .remembered))) where
+  module _ (x : PrefixText) (e : RouteEntry) (c : read.Route x e ≡ lineOf (σ .columns) l) (q : Packed) (g : plain (rememberedIn q) ≡ replace (textOf x) (plain (rememberedIn (b .memory)))) where
+    abbrev m : Remembered
+    m = rememberedIn q
+
     brought : plain m ≡ replace (textOf x) (plain (here .remembered))
     brought = g ∙ ap (replace (textOf x)) (sym same)
 
@@ -111,15 +116,15 @@ module _ (σ : State) (b : Place) (start : List ℕ) (n : ℕ) (kept : Kept σ s
         ∙ fine-route here (length l) fine-here l (read.Route x e) c 0 0 x e refl m brought
 
     begun-behind : (k : ℕ) → k ≡ keptLen x (b .«start_len») → Begins (frontOf σ) start n m k
-    begun-behind k f = rw f (text-keeps (frontOf σ) start n (b .remembered) (b .«start_len») (kept .begins) x m g)
+    begun-behind k f = rw f (text-keeps (frontOf σ) start n (rememberedIn (b .memory)) (b .«start_len») (kept .begins) x m g)
 
     -- without a valid prefix
     module _ (o : OneOf (0 ∷ 1 ∷ []) (tagOf the-type m)) where
-      pub bare : (out : List ℕ) → BodyDoes σ b l out out (step.Took (length l) 0 (there (length l) m 0))
-      bare = moves m 0 (other-route here l 16384 one fine-here (read.Route x e) c x e refl m brought o)
+      pub bare : (out : List ℕ) → BodyDoes σ b l out out (step.Took (length l) 0 (there (length l) q 0))
+      bare = moves q 0 (other-route here l 16384 one fine-here (read.Route x e) c x e refl m brought o)
 
-      pub bare-keeps : Kept σ start n (there (length l) m 0)
-      bare-keeps = record { fine = fine-behind; begins = none-begun start n (b .remembered) (b .«start_len») m (frontOf σ) (kept .begins) }
+      pub bare-keeps : Kept σ start n (there (length l) q 0)
+      bare-keeps = record { fine = fine-behind; begins = none-begun start n (rememberedIn (b .memory)) (b .«start_len») m (frontOf σ) (kept .begins) }
 
     -- under one
     module _ (p : NetworkPrefix) (v : m ≡ remembered.Valid p) where
@@ -145,10 +150,10 @@ module _ (σ : State) (b : Place) (start : List ℕ) (n : ℕ) (kept : Kept σ s
       acts-so = rw (← counted) is-routed
 
       module _ (out new : List ℕ) (r : RoutePut) (put : PutRoute σ p e (asnsOf (pathOf e l)) out new r) where
-        pub route-wrote : (w k : ℕ) → r ≡ route.Wrote w → BodyDoes σ b l out new (step.Took (length l) w (there (length l) (remembered.Valid p) k))
+        pub route-wrote : (w k : ℕ) → r ≡ route.Wrote w → BodyDoes σ b l out new (step.Took (length l) w (there (length l) q k))
         route-wrote w k f s =
             let h : PutRoute σ p e (asnsOf (pathOf e l)) out new (route.Wrote w) = rw f at put in
-            rw (acts-so, h .0 number behind) (h .1, refl, omega arith)
+            rw (acts-so, h .0 number behind) (h .1, rw v, omega arith)
 
         pub route-refused : (z : ℕ) → r ≡ route.Refused z → (newer : List ℕ) (w : ℕ) → Puts (refusalText z number) new newer w → BodyDoes σ b l out newer (step.Stops w)
         route-refused z f newer w d s =
@@ -169,8 +174,8 @@ module _ (σ : State) (b : Place) (start : List ℕ) (n : ℕ) (kept : Kept σ s
         pub begin-is : 0 < length (take k′ start′) → take k′ start′ ≡ frontOf σ ++ betweenText p
         begin-is h = begun-there .is-begin p refl (omega (arith, length-take k′ start′))
 
-        pub route-keeps : Kept σ start′ n (there (length l) (remembered.Valid p) k′)
-        route-keeps = record { fine = fine-prefix; begins = begun-there }
+        pub route-keeps : Kept σ start′ n (there (length l) q k′)
+        route-keeps = record { fine = fine-behind; begins = rw v begun-there }
 
 -- the line that comes next
 module _ (σ : State) (b : Place) (s : List ℕ) (ended : Bool) (f : Front) (known : Fronts s 0 ended f) where
@@ -206,14 +211,15 @@ abbrev pub At : State → ℕ → List ℕ → Bool → List ℕ → Place → �
 At σ number s ended out₀ b c w out = Came (Body σ number) s ended out₀ (phaseOf σ b) c w out
 
 module _ (σ : State) (number : ℕ) where
-  abbrev first : Place
-  first = record { remembered = σ .remembered; position = σ .position; number = number; «start_len» = 0 }
+  abbrev first : Packed → Place
+  first q = record { position = σ .position; number = number; «start_len» = 0; memory = q }
 
-  pub none-taken : (s : List ℕ) (ended : Bool) (out : List ℕ) → At σ number s ended out first 0 0 out
-  none-taken s ended out = subst (λ (z : State). Came (Body σ number) s ended out (Body z number) 0 0 out) (sym (moved-cursor σ)) (none-yet (Body σ number) s ended out)
+  module _ (q : Packed) (v : rememberedIn q ≡ σ .remembered) where
+    pub none-taken : (s : List ℕ) (ended : Bool) (out : List ℕ) → At σ number s ended out (first q) 0 0 out
+    none-taken s ended out = rw v (subst (λ (z : State). Came (Body σ number) s ended out (Body z number) 0 0 out) (sym (moved-cursor σ)) (none-yet (Body σ number) s ended out))
 
-  pub first-kept : (start : List ℕ) (n : ℕ) → Fine σ (σ .remembered) → Begins (frontOf σ) start n (σ .remembered) 0 → Kept σ start n first
-  first-kept start n f g = record { fine = f; begins = g }
+    pub first-kept : (start : List ℕ) (n : ℕ) → Fine σ (σ .remembered) → Begins (frontOf σ) start n (σ .remembered) 0 → Kept σ start n (first q)
+    first-kept start n f g = record { fine = rw v f; begins = rw v g }
 
 module _ (σ : State) (number : ℕ) (s : List ℕ) (ended : Bool) (out₀ : List ℕ) (b : Place) (c w : ℕ) (out : List ℕ) (came : At σ number s ended out₀ b c w out) where
   abbrev before : Phase
@@ -270,6 +276,6 @@ module _ (σ : State) (number : ℕ) (s : List ℕ) (ended : Bool) (out₀ : Lis
         true (λ g. loop.starved before s ended out₀ (phaseOf σ b) c w out came part (stepOf σ z) known (ap (stepOf σ) f)) (λ g. absurd (false≢true (sym g))))
 
 -- where it ends
-pub ran : (σ : State) (b : Place) (τ : State) → τ ≡ stateOf σ b → (c w : ℕ) (z : Bool)
+pub ran : (σ : State) (b : Place) (m : Remembered) → m ≡ rememberedIn (b .memory) → (τ : State) → τ ≡ moved σ (record { at = b .position; remembered = plain m }) → (c w : ℕ) (z : Bool)
     → _≡_ {A = Ran} (record { phase = Body τ (b .number); consumed = c; written = w; starved = z }) (record { phase = phaseOf σ b; consumed = c; written = w; starved = z })
-ran σ b τ e c w z = rw e
+ran σ b m f τ e c w z = rw (e, f)

@@ -25,6 +25,7 @@ use Rattle.text_dump.specs.State.{plain, moved, turned, spoilt}
 use Rattle.text_dump.specs.declared.Remembered.{Remembered}
 use Rattle.text_dump.specs.declared.Remembered.the-variants as remembered
 use Rattle.text_dump.specs.declared.State.{State}
+use Rattle.packed.specs.Packed.{rememberedIn}
 use Rattle.psv_stream.specs.Printed.{header, stopped, feed}
 use Rattle.psv_stream.specs.Printed as P
 use Rattle.psv_stream.specs.declared.Phase.{Phase}
@@ -185,7 +186,7 @@ keptLen (prefix.Valid p) k = 0
 
 -- the phase that it stands for
 abbrev pub stateOf : State → Place → State
-stateOf σ b = moved σ (record { at = b .position; remembered = plain (b .remembered) })
+stateOf σ b = moved σ (record { at = b .position; remembered = plain (rememberedIn (b .memory)) })
 
 abbrev pub phaseOf : State → Place → Phase
 phaseOf σ b = Body (stateOf σ b) (b .number)
@@ -201,8 +202,8 @@ Fine σ m = spoilt (moved σ (record { at = 0; remembered = plain m })) 0 ≡ fa
 
 -- what holds before each line
 pub record Kept (σ : State) (start : List ℕ) (n : ℕ) (b : Place) : Type 0 where
-  pub fine : Fine σ (b .remembered)
-  pub begins : Begins (frontOf σ) start n (b .remembered) (b .«start_len»)
+  pub fine : Fine σ (rememberedIn (b .memory))
+  pub begins : Begins (frontOf σ) start n (rememberedIn (b .memory)) (b .«start_len»)
 
 -- and behind it, if others come
 abbrev pub Keeps : State → List ℕ → ℕ → BodyStep → Type 0

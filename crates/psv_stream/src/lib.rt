@@ -21,10 +21,10 @@ use elem::Element;
 use elem::OptAsn;
 use network::NetworkPrefix;
 use output::Put;
+use packed::Packed;
 use path_text::AsnsPut;
 use psv::ElementPut;
 use text_dump::Opened;
-use text_dump::Remembered;
 use text_dump::State;
 use text_dump_line::Line;
 use text_dump_line::PrefixText;
@@ -281,13 +281,13 @@ fn take_head(phase: Phase, input: &[u8], ended: bool, out: &mut [u8]) -> Ran
 
 // The body.
 
-// Where the loop over the body's lines stands: what the state remembers and where it is, how many lines of the listing have come, and how many
-// bytes of what the lines under the remembered prefix begin with are printed: all of them, or none.
+// Where the loop over the body's lines stands: what the state remembers, packed, and where it is, how many lines of the listing have come, and how
+// many bytes of what the lines under the remembered prefix begin with are printed: all of them, or none.
 struct Place {
-    remembered: Remembered,
     position: usize,
     number: u64,
     start_len: usize,
+    memory: Packed,
 }
 
 // A Step of the body. The numbers come first, so that each stands at the same place in every variant.
@@ -491,21 +491,22 @@ fn route_line(
 {
     let number = std::num::wrapping_add_u64(b.number, 1);
     let position = line.len();
-    let before = b.remembered;
+    let before = b.memory;
     let kept = kept_len(text, b.start_len);
-    let remembered = text_dump::replaced(text, before);
-    let Remembered::Valid(prefix) = remembered else {
+    let memory = packed::pack_behind(text, before);
+    if memory.kind < 2 {
         return BodyStep::Took(
             position,
             0,
             Place {
-                remembered,
                 position,
                 number,
                 start_len: 0,
+                memory,
             },
         );
-    };
+    }
+    let prefix = packed::prefix_of(memory);
     let start_len = start_of(start, front_len, prefix, kept);
     let put = print_route(&start[..start_len], state, prefix, entry, line, asns, out);
     match put {
@@ -513,10 +514,10 @@ fn route_line(
             position,
             n,
             Place {
-                remembered: Remembered::Valid(prefix),
                 position,
                 number,
                 start_len,
+                memory,
             },
         ),
         RoutePut::Refused(n) => BodyStep::Stops(refuse(n, number, out)),
@@ -546,29 +547,32 @@ fn body_line(
     match read {
         Line::Unreadable => BodyStep::Stops(refuse(6, number, out)),
         Line::Passed => {
-            let remembered = b.remembered;
+            let memory = b.memory;
             let start_len = b.start_len;
             BodyStep::Took(
                 position,
                 0,
                 Place {
-                    remembered,
                     position,
                     number,
                     start_len,
+                    memory,
                 },
             )
         }
-        Line::Wrapped(wrapped) => BodyStep::Took(
-            position,
-            0,
-            Place {
-                remembered: Remembered::Valid(wrapped),
+        Line::Wrapped(wrapped) => {
+            let memory = packed::pack_prefix(wrapped);
+            BodyStep::Took(
                 position,
-                number,
-                start_len: 0,
-            },
-        ),
+                0,
+                Place {
+                    position,
+                    number,
+                    start_len: 0,
+                    memory,
+                },
+            )
+        }
         Line::Route(text, entry) => route_line(
             start,
             front_len,
@@ -612,7 +616,8 @@ fn body_ran(state: State, b: Place, consumed: usize, written: usize, starved: bo
     ensures { λ r. ⌜ r ≡ record { phase = phaseOf state b; consumed = consumed; written = written; starved = starved } ⌝ }
 {
     let position = b.position;
-    let remembered = b.remembered;
+    let memory = b.memory;
+    let remembered = packed::unpack(memory);
     let number = b.number;
     Ran {
         phase: Phase::Body(state.moved(position, remembered), number),
@@ -639,11 +644,12 @@ fn take_body(
 {
     let remembered = state.remembered;
     let position = state.position;
+    let memory = packed::pack(remembered);
     let mut b = Place {
-        remembered,
         position,
         number,
         start_len: 0,
+        memory,
     };
     let mut consumed = 0;
     let mut written = 0;

@@ -21,6 +21,9 @@ enum-told-2 c = search needs
 enum-known-read : tie.Need-enum-known-read
 enum-known-read c = search needs
 
+pack-prefix-requires : tie.Need-pack-prefix-requires
+pack-prefix-requires c κs = search needs
+
 enum-known-read-2 : tie.Need-enum-known-read-2
 enum-known-read-2 c = search needs
 
@@ -58,6 +61,7 @@ body-line-spec =
     refuse-requires
     enum-told-2
     enum-known-read
+    pack-prefix-requires
     enum-known-read-2
     route-line-requires
     same-length

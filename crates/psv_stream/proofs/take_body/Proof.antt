@@ -18,6 +18,9 @@ Inv-loop start₀ n state number input ended asns₀ out₀ position b₀ consum
 abbrev μ-loop : tie.MeasureT-loop
 μ-loop start₀ n state number input ended asns₀ out₀ position b₀ consumed₀ written₀ start asns out b consumed written = length input - consumed
 
+pack-requires : tie.Need-pack-requires Inv-loop μ-loop
+pack-requires c κs = search needs
+
 loop-holds : tie.Need-loop-holds Inv-loop μ-loop
 loop-holds c = (search none-taken, (search first-kept, refl))
 
@@ -58,15 +61,15 @@ same-length-2 : tie.Need-same-length-2 Inv-loop μ-loop
 same-length-2 c = search (laws, needs)
 
 returns : tie.Need-returns Inv-loop μ-loop
-returns c = starves (c .before .before .before .before .before .before .before .before .before .before .before .before .before .before .before .before .before .args .state) (c .before .before .before .before .before .before .before .before .before .before .before .before .before .before .before .before .before .args .number) _ _ _ (c .before .before .before .before .before .before .before .before .before .before .before .before .before .loop .b) _ _ _ (c .before .before .before .before .before .before .before .before .before .before .before .before .before .loop .inv .0) _ (c .before .before .before .before .before .before .before .take-body-line .result) (c .before .before .before .before .before .before .before .take-body-line .ensures .0) (search needs) _ (c .body-ran .ensures)
+returns c = starves (c .before .before .before .before .before .before .before .before .before .before .before .before .before .before .before .before .before .before .args .state) (c .before .before .before .before .before .before .before .before .before .before .before .before .before .before .before .before .before .before .args .number) _ _ _ (c .before .before .before .before .before .before .before .before .before .before .before .before .before .loop .b) _ _ _ (c .before .before .before .before .before .before .before .before .before .before .before .before .before .loop .inv .0) _ (c .before .before .before .before .before .before .before .take-body-line .result) (c .before .before .before .before .before .before .before .take-body-line .ensures .0) (search needs) _ (c .body-ran .ensures)
 
 enum-known-step : tie.Need-enum-known-step Inv-loop μ-loop
 enum-known-step c = search (laws, needs)
 
 add-all : tie.Need-add-all Inv-loop μ-loop
 add-all c =
-    let h : c .before .before .before .before .before .before .before .before .before .before .before .before .before .loop .written + c .before .step .given .0 .0 ≤ length (c .before .before .before .before .before .before .before .before .before .before .before .before .before .before .before .before .before .args .out .now) =
-    stops-within (c .before .before .before .before .before .before .before .before .before .before .before .before .before .before .before .before .before .args .state) (c .before .before .before .before .before .before .before .before .before .before .before .before .before .before .before .before .before .args .number) _ _ _ (c .before .before .before .before .before .before .before .before .before .before .before .before .before .loop .b) _ _ _ (c .before .before .before .before .before .before .before .before .before .before .before .before .before .loop .inv .0) _ _ (c .before .before .before .before .before .before .before .take-body-line .ensures .0) _ (c .before .step .given .1) in omega (arith, h)
+    let h : c .before .before .before .before .before .before .before .before .before .before .before .before .before .loop .written + c .before .step .given .0 .0 ≤ length (c .before .before .before .before .before .before .before .before .before .before .before .before .before .before .before .before .before .before .args .out .now) =
+    stops-within (c .before .before .before .before .before .before .before .before .before .before .before .before .before .before .before .before .before .before .args .state) (c .before .before .before .before .before .before .before .before .before .before .before .before .before .before .before .before .before .before .args .number) _ _ _ (c .before .before .before .before .before .before .before .before .before .before .before .before .before .loop .b) _ _ _ (c .before .before .before .before .before .before .before .before .before .before .before .before .before .loop .inv .0) _ _ (c .before .before .before .before .before .before .before .take-body-line .ensures .0) _ (c .before .step .given .1) in omega (arith, h, c .before .before .before .before .before .before .before .before .before .before .before .before .before .before .before .before .before .before .good .1 .1 .1 .1 .1 .1 .1 .0)
 
 same-length-3 : tie.Need-same-length-3 Inv-loop μ-loop
 same-length-3 c = search (laws, needs)
@@ -75,28 +78,28 @@ same-length-4 : tie.Need-same-length-4 Inv-loop μ-loop
 same-length-4 c = search (laws, needs)
 
 returns-2 : tie.Need-returns-2 Inv-loop μ-loop
-returns-2 c = stops (c .before .before .before .before .before .before .before .before .before .before .before .before .before .before .before .before .before .args .state) (c .before .before .before .before .before .before .before .before .before .before .before .before .before .before .before .before .before .args .number) _ _ _ (c .before .before .before .before .before .before .before .before .before .before .before .before .before .loop .b) _ _ _ (c .before .before .before .before .before .before .before .before .before .before .before .before .before .loop .inv .0) _ _ (c .before .before .before .before .before .before .before .take-body-line .ensures .0) _ (c .before .step .given .1) (search needs)
+returns-2 c = stops (c .before .before .before .before .before .before .before .before .before .before .before .before .before .before .before .before .before .before .args .state) (c .before .before .before .before .before .before .before .before .before .before .before .before .before .before .before .before .before .before .args .number) _ _ _ (c .before .before .before .before .before .before .before .before .before .before .before .before .before .loop .b) _ _ _ (c .before .before .before .before .before .before .before .before .before .before .before .before .before .loop .inv .0) _ _ (c .before .before .before .before .before .before .before .take-body-line .ensures .0) _ (c .before .step .given .1) (search needs)
 
 enum-known-step-2 : tie.Need-enum-known-step-2 Inv-loop μ-loop
 enum-known-step-2 c = search (laws, needs)
 
 add-consumed : tie.Need-add-consumed Inv-loop μ-loop
 add-consumed c =
-    let h : c .before .before .before .before .before .before .before .before .before .before .before .before .before .loop .consumed + c .before .step2 .given .0 .0 ≤ length (c .before .before .before .before .before .before .before .before .before .before .before .before .before .before .before .before .before .args .input .now) =
-    inside (c .before .before .before .before .before .before .before .before .before .before .before .before .before .before .before .before .before .args .state) (c .before .before .before .before .before .before .before .before .before .before .before .before .before .before .before .before .before .args .number) _ _ _ (c .before .before .before .before .before .before .before .before .before .before .before .before .before .loop .b) _ _ _ (c .before .before .before .before .before .before .before .before .before .before .before .before .before .loop .inv .0) _ _ (c .before .before .before .before .before .before .before .take-body-line .ensures .0) _ _ _ (c .before .step2 .given .1) in omega (arith, h)
+    let h : c .before .before .before .before .before .before .before .before .before .before .before .before .before .loop .consumed + c .before .step2 .given .0 .0 ≤ length (c .before .before .before .before .before .before .before .before .before .before .before .before .before .before .before .before .before .before .args .input .now) =
+    inside (c .before .before .before .before .before .before .before .before .before .before .before .before .before .before .before .before .before .before .args .state) (c .before .before .before .before .before .before .before .before .before .before .before .before .before .before .before .before .before .before .args .number) _ _ _ (c .before .before .before .before .before .before .before .before .before .before .before .before .before .loop .b) _ _ _ (c .before .before .before .before .before .before .before .before .before .before .before .before .before .loop .inv .0) _ _ (c .before .before .before .before .before .before .before .take-body-line .ensures .0) _ _ _ (c .before .step2 .given .1) in omega (arith, h, c .before .before .before .before .before .before .before .before .before .before .before .before .before .before .before .before .before .before .good .1 .1 .1 .1 .0)
 
 add-written : tie.Need-add-written Inv-loop μ-loop
 add-written c =
-    let h : c .before .before .before .before .before .before .before .before .before .before .before .before .before .loop .written + c .before .step2 .given .0 .1 .0 ≤ length (c .before .before .before .before .before .before .before .before .before .before .before .before .before .before .before .before .before .args .out .now) =
-    within (c .before .before .before .before .before .before .before .before .before .before .before .before .before .before .before .before .before .args .state) (c .before .before .before .before .before .before .before .before .before .before .before .before .before .before .before .before .before .args .number) _ _ _ (c .before .before .before .before .before .before .before .before .before .before .before .before .before .loop .b) _ _ _ (c .before .before .before .before .before .before .before .before .before .before .before .before .before .loop .inv .0) _ _ (c .before .before .before .before .before .before .before .take-body-line .ensures .0) _ _ _ (c .before .step2 .given .1) in omega (arith, h, c .before .before .before .before .before .before .before .before .before .before .before .before .before .before .before .before .before .good .1 .1 .1 .1 .1 .1 .1 .0)
+    let h : c .before .before .before .before .before .before .before .before .before .before .before .before .before .loop .written + c .before .step2 .given .0 .1 .0 ≤ length (c .before .before .before .before .before .before .before .before .before .before .before .before .before .before .before .before .before .before .args .out .now) =
+    within (c .before .before .before .before .before .before .before .before .before .before .before .before .before .before .before .before .before .before .args .state) (c .before .before .before .before .before .before .before .before .before .before .before .before .before .before .before .before .before .before .args .number) _ _ _ (c .before .before .before .before .before .before .before .before .before .before .before .before .before .loop .b) _ _ _ (c .before .before .before .before .before .before .before .before .before .before .before .before .before .loop .inv .0) _ _ (c .before .before .before .before .before .before .before .take-body-line .ensures .0) _ _ _ (c .before .step2 .given .1) in omega (arith, h, c .before .before .before .before .before .before .before .before .before .before .before .before .before .before .before .before .before .before .good .1 .1 .1 .1 .1 .1 .1 .0)
 
 loop-less : tie.Need-loop-less Inv-loop μ-loop
-loop-less c = fewer (c .before .before .before .before .before .before .before .before .before .before .before .before .before .before .before .before .before .args .state) (c .before .before .before .before .before .before .before .before .before .before .before .before .before .before .before .before .before .args .number) _ _ _ (c .before .before .before .before .before .before .before .before .before .before .before .before .before .loop .b) _ _ _ (c .before .before .before .before .before .before .before .before .before .before .before .before .before .loop .inv .0) _ _ (c .before .before .before .before .before .before .before .take-body-line .ensures .0) _ _ _ (c .before .step2 .given .1)
+loop-less c = fewer (c .before .before .before .before .before .before .before .before .before .before .before .before .before .before .before .before .before .before .args .state) (c .before .before .before .before .before .before .before .before .before .before .before .before .before .before .before .before .before .before .args .number) _ _ _ (c .before .before .before .before .before .before .before .before .before .before .before .before .before .loop .b) _ _ _ (c .before .before .before .before .before .before .before .before .before .before .before .before .before .loop .inv .0) _ _ (c .before .before .before .before .before .before .before .take-body-line .ensures .0) _ _ _ (c .before .step2 .given .1)
 
 loop-again : tie.Need-loop-again Inv-loop μ-loop
 loop-again c = (
-  takes (c .before .before .before .before .before .before .before .before .before .before .before .before .before .before .before .before .before .args .state) (c .before .before .before .before .before .before .before .before .before .before .before .before .before .before .before .before .before .args .number) _ _ _ (c .before .before .before .before .before .before .before .before .before .before .before .before .before .loop .b) _ _ _ (c .before .before .before .before .before .before .before .before .before .before .before .before .before .loop .inv .0) _ _ (c .before .before .before .before .before .before .before .take-body-line .ensures .0) _ _ _ (c .before .step2 .given .1) (search needs),
-  (keeps (c .before .before .before .before .before .before .before .before .before .before .before .before .before .before .before .before .before .args .state) (c .before .before .before .before .before .before .before .before .before .before .before .before .before .before .before .before .before .args .number) _ _ _ (c .before .before .before .before .before .before .before .before .before .before .before .before .before .loop .b) _ _ _ (c .before .before .before .before .before .before .before .before .before .before .before .before .before .loop .inv .0) _ _ (c .before .before .before .before .before .before .before .take-body-line .ensures .0) _ _ _ (c .before .step2 .given .1) _ _ (c .before .before .before .before .before .before .before .take-body-line .ensures .1), search needs),
+  takes (c .before .before .before .before .before .before .before .before .before .before .before .before .before .before .before .before .before .before .args .state) (c .before .before .before .before .before .before .before .before .before .before .before .before .before .before .before .before .before .before .args .number) _ _ _ (c .before .before .before .before .before .before .before .before .before .before .before .before .before .loop .b) _ _ _ (c .before .before .before .before .before .before .before .before .before .before .before .before .before .loop .inv .0) _ _ (c .before .before .before .before .before .before .before .take-body-line .ensures .0) _ _ _ (c .before .step2 .given .1) (search needs),
+  (keeps (c .before .before .before .before .before .before .before .before .before .before .before .before .before .before .before .before .before .before .args .state) (c .before .before .before .before .before .before .before .before .before .before .before .before .before .before .before .before .before .before .args .number) _ _ _ (c .before .before .before .before .before .before .before .before .before .before .before .before .before .loop .b) _ _ _ (c .before .before .before .before .before .before .before .before .before .before .before .before .before .loop .inv .0) _ _ (c .before .before .before .before .before .before .before .take-body-line .ensures .0) _ _ _ (c .before .step2 .given .1) _ _ (c .before .before .before .before .before .before .before .take-body-line .ensures .1), search needs),
 )
 
 body-ran-requires-2 : tie.Need-body-ran-requires-2 Inv-loop μ-loop
@@ -117,6 +120,7 @@ take-body-spec =
     (tie.spec
     Inv-loop
     μ-loop
+    pack-requires
     loop-holds
     sub-loop
     sub-take-body-line
