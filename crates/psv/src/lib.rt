@@ -325,6 +325,57 @@ pub fn put_front(
     Put::Wrote(output::write_bytes(&text[..n], out, 0))
 }
 
+// The line of texts that are at hand.
+
+// Whether texts of four lengths have room; they may be too large to add up.
+fn four_fit(a: usize, b: usize, c: usize, d: usize, room: usize) -> bool
+    ensures { λ r. ⌜ r ≡ leb (a + b + c + d) room ⌝ }
+{
+    if room < a {
+        return false;
+    }
+    if room - a < b {
+        return false;
+    }
+    if room - a - b < c {
+        return false;
+    }
+    d <= room - a - b - c
+}
+
+// Beside the three texts stand two bars and the attributes, 110 bytes at most; measured only where it is not sure.
+fn texts_fit(begin_len: usize, path_len: usize, asn_len: usize, e: Element, room: usize) -> bool
+    ensures { λ r. ⌜ r ≡ leb (2 + length (attributesText e) + «begin_len» + «path_len» + «asn_len») room ⌝ }
+{
+    if four_fit(110, begin_len, path_len, asn_len, room) {
+        return true;
+    }
+    let beside = 2 + attributes_len(e);
+    four_fit(beside, begin_len, path_len, asn_len, room)
+}
+
+fn write_texts(begin: &[u8], path: &[u8], origin_asn: &[u8], e: Element, out: &mut [u8]) -> usize
+    ensures { λ r. ⌜ Written (textsLine (now (begin .entry)) (now (path .entry)) (now («origin_asn» .entry)) e) (now (out .entry)) 0 (now (out .exit)) r ⌝ }
+{
+    let a = output::write_bytes(begin, out, 0);
+    let b = output::write_bytes(path, out, a);
+    let c = output::write_byte(b'|', out, b);
+    let d = output::write_bytes(origin_asn, out, c);
+    let f = write_attributes(e, out, d);
+    output::write_byte(b'|', out, f)
+}
+
+// to_psv's line of texts that are not looked at: what stands before the path, the path and the origin AS. Of the element only its origin, next hop,
+// preference and metric are printed.
+pub fn put_texts(begin: &[u8], path: &[u8], origin_asn: &[u8], e: Element, out: &mut [u8]) -> Put
+    ensures { λ r. ⌜ (r ≡ answer (textsLine (now (begin .entry)) (now (path .entry)) (now («origin_asn» .entry)) e) (now (out .entry))) × (now (out .exit) ≡ front (textsLine (now (begin .entry)) (now (path .entry)) (now («origin_asn» .entry)) e) (now (out .entry))) ⌝ }
+{
+    if texts_fit(begin.len(), path.len(), origin_asn.len(), e, out.len()) {
+        return Put::Wrote(write_texts(begin, path, origin_asn, e, out));
+    }
+    Put::TooShort
+}
+
 // Display of the element.
 pub fn display_element(e: Element, asns: &[u32], out: &mut [u8]) -> ElementPut
     ensures { λ r. ⌜ Printed (spoilt e (now (asns .entry))) (displayText e (now (asns .entry))) (now (out .entry)) r (now (out .exit)) ⌝ }
