@@ -10,7 +10,7 @@ use mir.Syntax.{w8}
 use mir.Val.{Fits}
 use Rattle.output.specs.Output.{front}
 use Rattle.output.proofs.Output.{front-part}
-use Rattle.little.specs.Little.{bytesOf, Bytes, wordsIn}
+use Rattle.little.specs.Little.{bytesOf, wordsIn}
 use Rattle.little.proofs.Laws.{length-words, take-words, words-small, front-words}
 use Rattle.network.specs.declared.NetworkPrefix.{NetworkPrefix}
 use Rattle.plain_reader.specs.Cursor.{Cursor}
@@ -22,18 +22,15 @@ use Rattle.codec.proofs.Writing.{moved-words, cursor-last, turned-words, positi
 use Rattle.collector.specs.Bytes.{stateBytes, stateIn}
 
 module _ (s : List ℕ) (room : 128 ≤ length s) (known : (i : ℕ) → Fits w8 (getD s i 0)) (σ : State) (here : stateIn s ≡ some σ) where
-  bytes : Bytes s
-  bytes i = known i .fits
-
   its-words : wordsIn 16 s ≡ stateWords σ
   unfolding stateIn
-  its-words = spelled (wordsIn 16 s) σ here .0 (length-words 16 s) (words-small 16 s room bytes 9)
+  its-words = spelled (wordsIn 16 s) σ here .0 (length-words 16 s) (words-small 16 s room known 9)
 
   others : (τ : State) (k : ℕ) → k ≤ 16 → take k (stateWords τ) ≡ take k (stateWords σ)
       → take (8 * k) s ++ front (bytesOf (drop k (stateWords τ))) (drop (8 * k) s) ≡ front (stateBytes τ) s
   unfolding stateBytes
   others τ k h e =
-      sym (front-words (stateWords τ) s k (omega arith) bytes (e ∙ ap (take k) (sym its-words) ∙ take-words k 16 s h))
+      sym (front-words (stateWords τ) s k (omega arith) known (e ∙ ap (take k) (sym its-words) ∙ take-words k 16 s h))
 
   -- the same reading elsewhere
   pub moved-bytes : (c : Cursor NetworkPrefix) (τ : State) → moved σ c ≡ τ

@@ -1,16 +1,15 @@
 -- Words as bytes, and back. Assumes nothing.
 use mathlib.Core.Path.{_≡_, refl, sym, ap, _∙_}
-use mathlib.Core.List.{List, [], _∷_, _++_, append-assoc}
-use Prim.Native.Nat.{ℕ, zero, suc, _+_, _*_, _/_, _%_, _^_, _≤_, _<_}
-use native.Mathlib.Nat.{add-zero, pow-suc}
+use mathlib.Core.List.{List, [], _∷_, _++_, append-assoc, append-nil}
+use Prim.Native.Nat.{ℕ, zero, suc, _+_, _*_, _^_, _≤_, _<_}
 use native.Mathlib.Omega.{arith}
 use lib.ListN.{length, getD, take, drop, length-append, length-drop, take-append-drop}
-use lib.Seq.{take-at, drop-at, take-add, getD-drop, length-take-le}
+use lib.Seq.{take-at, drop-at, take-add, length-take-le}
 use Rattle.output.specs.Output.{front}
 use Rattle.output.proofs.Output.{front-behind}
-use Rattle.word.specs.Word.{bytes, littleEndian, number}
-use Rattle.word.proofs.Laws.{length-bytes, number-back}
-use Rattle.little.specs.Little.{bytesOf, Bytes, wordsIn}
+use Rattle.word.specs.Word.{littleEndian, number}
+use Rattle.word.proofs.Laws.{length-bytes, number-back, Bytes, take-bytes, drop-bytes, number-bound, bytes-back}
+use Rattle.little.specs.Little.{bytesOf, wordsIn}
 
 pub length-bytes-of : (w : List ℕ) → length (bytesOf w) ≡ 8 * length w
 unfolding bytesOf
@@ -32,33 +31,6 @@ words-back (v ∷ w) t =
     let e : length b ≡ 8 = length-bytes 7 v in
     rw (append-assoc b (bytesOf w) t, take-at b rest 8 e, drop-at b rest 8 e, number-back 7 v, words-back w t)
 
--- parts of bytes are bytes
-bytes-take : (n : ℕ) (s : List ℕ) → Bytes s → Bytes (take n s)
-bytes-take zero s b i = omega arith
-bytes-take (suc n) [] b i = omega arith
-bytes-take (suc n) (x ∷ s) b zero = b 0
-bytes-take (suc n) (x ∷ s) b (suc i) = bytes-take n s (λ j. b (suc j)) i
-
-bytes-drop : (n : ℕ) (s : List ℕ) → Bytes s → Bytes (drop n s)
-bytes-drop n s b i = rw getD-drop (b (n + i))
-
--- the number that bytes are has those bytes
-bytes-back : (n : ℕ) (s : List ℕ) → length s ≡ suc n → Bytes s → bytes n (number s) ≡ s
-unfolding bytes number
-bytes-back n [] h b = absurd (let f : ⊥ = omega arith in f)
-bytes-back zero (x ∷ []) h b = simp add-zero
-bytes-back zero (x ∷ y ∷ s) h b = absurd (let f : ⊥ = omega arith in f)
-bytes-back (suc n) (x ∷ s) h b =
-    let small : x < 256 = b 0 in
-    let low : (x + 256 * number s) % 256 ≡ x = omega arith in
-    let high : (x + 256 * number s) / 256 ≡ number s = omega arith in
-    rw (low, high, bytes-back n s (omega arith) (λ i. b (suc i)))
-
-number-small : (s : List ℕ) → Bytes s → number s < 256 ^ length s
-unfolding number
-number-small [] b = omega arith
-number-small (x ∷ s) b = rw (pow-suc 256 (length s)) (omega (arith, b 0, number-small s (λ i. b (suc i))))
-
 -- the words that are read
 pub length-words : (n : ℕ) (s : List ℕ) → length (wordsIn n s) ≡ n
 unfolding wordsIn
@@ -75,15 +47,16 @@ take-words (suc k) (suc n) s h = ap (λ (l : List ℕ). number (take 8 s) ∷ l)
 pub words-small : (n : ℕ) (s : List ℕ) → 8 * n ≤ length s → Bytes s → (i : ℕ) → getD (wordsIn n s) i 0 < 2 ^ 64
 unfolding wordsIn
 words-small zero s h b i = omega arith
-words-small (suc n) s h b zero = rw (length-take-le 8 s (omega arith)) at (number-small (take 8 s) (bytes-take 8 s b))
-words-small (suc n) s h b (suc i) = words-small n (drop 8 s) (rw length-drop (omega arith)) (bytes-drop 8 s b) i
+words-small (suc n) s h b zero = rw (length-take-le 8 s (omega arith)) at (number-bound (take 8 s) (take-bytes 8 s b))
+words-small (suc n) s h b (suc i) = words-small n (drop 8 s) (rw length-drop (omega arith)) (drop-bytes 8 s b) i
 
 pub bytes-words : (n : ℕ) (s : List ℕ) → 8 * n ≤ length s → Bytes s → bytesOf (wordsIn n s) ≡ take (8 * n) s
 unfolding bytesOf wordsIn
 bytes-words zero s h b = refl
 bytes-words (suc n) s h b =
-    let first : littleEndian (number (take 8 s)) ≡ take 8 s = bytes-back 7 (take 8 s) (length-take-le 8 s (omega arith)) (bytes-take 8 s b) in
-    let others : bytesOf (wordsIn n (drop 8 s)) ≡ take (8 * n) (drop 8 s) = bytes-words n (drop 8 s) (rw length-drop (omega arith)) (bytes-drop 8 s b) in
+    let size : length (take 8 s) ≡ 8 = length-take-le 8 s (omega arith) in
+    let first : littleEndian (number (take 8 s)) ≡ take 8 s = bytes-back 7 (take 8 s) (take-bytes 8 s b) (omega arith) ∙ rw size (append-nil (take 8 s)) in
+    let others : bytesOf (wordsIn n (drop 8 s)) ≡ take (8 * n) (drop 8 s) = bytes-words n (drop 8 s) (rw length-drop (omega arith)) (drop-bytes 8 s b) in
     let q : 8 * suc n ≡ 8 + 8 * n = omega arith in
     rw (q, first, others) (sym (take-add 8 (8 * n) s))
 
