@@ -87,7 +87,6 @@ module _ (path : List ℕ) (at last w n : ℕ) (bytes : Bytes path) (c : Copied 
         order = c .order;
         text = sym (append-nil (take (at - 1) path)) ∙ rw none at (c .text);
         asn = rw none at (c .asn);
-        few = leb-true (length (asnsOf path)) (length path) (sym (many-places path (length path) (omega arith)));
       }
 
   module _ (some : n ≡ 0 → ⊥) (few : n ≤ 7) (space : w / 2 ^ (8 * n) % 256 ≡ 32) where
@@ -129,7 +128,7 @@ module _ (begin path : List ℕ) (e : Element) (out part : List ℕ) (last end :
       go true i g h =
           let k : n ≡ length text = cc in
           let y = part-put out part room text i h new w (rw k at v) in
-          (omega (arith, s .few), y .0, y .1)
+          (leb-true (length (asnsOf path)) 16384 (sym (many-places path 16384 few)), y .0, y .1)
       go false i g h = let y : _≡_ {A = ℕ} 0 1 = cc in absurd (omega arith)
 
   pub copied-short : r ≡ written.TooShort → Copies begin path e out (part ++ drop 65536 out) written.TooShort

@@ -96,7 +96,6 @@ pub record Spells (path : List ℕ) (last end : ℕ) : Type 0 where
   pub order : last ≤ end
   pub text : take end path ≡ sequenceText (asnsOf path)
   pub asn : take (end - last) (drop last path) ≡ asnText (originAsn (asnsOf path))
-  pub few : length (asnsOf path) ≤ length path
 
 -- what is told of a plain path; of others nothing is
 abbrev pub IsPlain : List ℕ → PlainPath → Type 0
