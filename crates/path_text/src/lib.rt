@@ -1,12 +1,14 @@
 // What the path's part of a line says: the AS numbers, and the origin.
 ghost use mathlib.Core.Path.{_≡_};
-ghost use mathlib.Core.List.{_++_};
+ghost use mathlib.Core.Bool.{true, cond};
+ghost use mathlib.Core.List.{[], _∷_, _++_};
 ghost use Prim.Native.Nat.{_≤_};
 ghost use lib.ListN.{length, drop};
 ghost use lib.Dec.{leb};
 ghost use Rattle.output.specs.Output.{front};
-ghost use Rattle.path_text.specs.Path.{lastToken, letter, originOf, asnsOf, putAnswer};
+ghost use Rattle.path_text.specs.Path.{lastToken, letter, isKnown, originOf, asnsOf, putAnswer};
 ghost use Rattle.path_text.specs.Walk.{lone, IsPlain, Finds};
+ghost use Rattle.elem.specs.declared.OptOrigin.the-variants as origin;
 use decimal::U32Read;
 use elem::OptOrigin;
 use elem::Origin;
@@ -41,6 +43,33 @@ fn letter_of(w: &[u8]) -> OptOrigin
     OptOrigin::Nothing
 }
 
+fn is_letter(b: u8) -> bool
+    ensures { λ r. ⌜ r ≡ isKnown (letter (b ∷ [])) ⌝ }
+{
+    (b == b'i') | (b == b'e') | (b == b'?')
+}
+
+fn one_if(told: bool) -> u8
+    ensures { λ r. ⌜ (r ≡ cond told 1 0) × (r ≤ 1) ⌝ }
+{
+    told as u8
+}
+
+// What a letter tells, by way of its number: no branch is made of that, and none would guess which letter comes.
+fn origin_by(b: u8) -> Origin
+    requires { ⌜ isKnown (letter (b ∷ [])) ≡ true ⌝ }
+    ensures { λ r. ⌜ origin.Known r ≡ letter (b ∷ []) ⌝ }
+{
+    let number = one_if(b == b'e') + 2 * one_if(b == b'?');
+    if number == 0 {
+        return Origin::IGP;
+    }
+    if number == 1 {
+        return Origin::EGP;
+    }
+    Origin::INCOMPLETE
+}
+
 // Most parts end in a space and a letter, which two bytes tell.
 pub fn origin_of(s: &[u8]) -> OptOrigin
     ensures { λ r. ⌜ r ≡ originOf (now (s .entry)) ⌝ }
@@ -53,14 +82,8 @@ pub fn origin_of(s: &[u8]) -> OptOrigin
         return letter_of(last_token(s));
     }
     let b = s[n - 1];
-    if b == b'i' {
-        return OptOrigin::Known(Origin::IGP);
-    }
-    if b == b'e' {
-        return OptOrigin::Known(Origin::EGP);
-    }
-    if b == b'?' {
-        return OptOrigin::Known(Origin::INCOMPLETE);
+    if is_letter(b) {
+        return OptOrigin::Known(origin_by(b));
     }
     letter_of(last_token(s))
 }

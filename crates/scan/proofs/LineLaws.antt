@@ -6,10 +6,12 @@ use mathlib.Core.List.{List, [], _∷_, _++_, map, flatten, headD, append-nil, a
 use native.Mathlib.Omega.{arith}
 use lib.ListN.{length, getD, take, drop, length-append, length-take, length-drop, take-append-drop, drop-of-length-le}
 use lib.Seq.{take-at, drop-drop}
-use borrow.Author.Tests.{eq-eqb, ne-eqb}
+use native.Mathlib.Nat.{add-zero, add-assoc}
+use lib.Dec.{leb, eqb}
+use borrow.Author.Tests.{eq-eqb, ne-eqb, eqb-true, eqb-false, leb-true, leb-false}
 use Rattle.scan.specs.Lists.{onto, anyOf, takeWhile, dropWhile, endWhile}
 use Rattle.scan.specs.Lines.{isFeed, notFeed, lines, lineEnd, Line-at, Cut, Cuts}
-use Rattle.scan.proofs.ListLaws.{flatten-onto, takeWhile-dropWhile, endWhile-inside, scan-stop, scan-on, anyOf-next, endWhile-over}
+use Rattle.scan.proofs.ListLaws.{flatten-onto, takeWhile-dropWhile, endWhile-inside, scan-stop, scan-on, anyOf-next, anyOf-before, endWhile-over}
 
 -- the scan for a line feed, byte by byte
 module _ (s : List ℕ) (at i : ℕ) (e : endWhile notFeed s at ≡ endWhile notFeed s i) where
@@ -19,24 +21,74 @@ module _ (s : List ℕ) (at i : ℕ) (e : endWhile notFeed s at ≡ endWhile not
   pub feed-later : i < length s → (getD s i 0 ≡ 10 → ⊥) → endWhile notFeed s at ≡ endWhile notFeed s (i + 1)
   feed-later h n = scan-on notFeed s at i e 0 h (simp (ne-eqb (getD s i 0) 10 n))
 
-  -- and 16 bytes at a time
-  pub feed-far : (r : Bool) → 16 ≤ length s - i → r ≡ anyOf isFeed (take 16 (drop i s)) → r ≡ false → endWhile notFeed s at ≡ endWhile notFeed s (i + 16)
-  feed-far r h q n = e ∙ endWhile-over isFeed s 16 i 0 (omega arith) (sym q ∙ n)
+  -- and 64 bytes at a time
+  pub feed-far : (r : Bool) → 64 ≤ length s - i → r ≡ anyOf isFeed (take 64 (drop i s)) → r ≡ false → endWhile notFeed s at ≡ endWhile notFeed s (i + 64)
+  feed-far r h q n = e ∙ endWhile-over isFeed s 64 i 0 (omega arith) (sym q ∙ n)
 
   pub feed-from : (r : ℕ) → r ≡ endWhile notFeed s i → r ≡ endWhile notFeed s at
   feed-from r q = q ∙ sym e
 
--- the test of 16 bytes: the first k of them are seen
+-- the test of 64 bytes: the first k of them are seen
 pub near-none : (s : List ℕ) (at : ℕ) → false ≡ anyOf isFeed (take 0 (drop at s))
 unfolding anyOf
 near-none s at = refl
 
 module _ (s : List ℕ) (at k : ℕ) (near : Bool) (e : near ≡ anyOf isFeed (take k (drop at s))) where
-  pub near-more : at + 16 ≤ length s → k < 16 → (near || isFeed (getD s (at + k) 0)) ≡ anyOf isFeed (take (k + 1) (drop at s))
+  pub near-more : at + 64 ≤ length s → k < 64 → (near || isFeed (getD s (at + k) 0)) ≡ anyOf isFeed (take (k + 1) (drop at s))
   near-more h l = sym (anyOf-next isFeed s at k 0 (omega arith) ∙ rw e)
 
-  pub near-all : k ≤ 16 → 16 ≤ k → near ≡ anyOf isFeed (take 16 (drop at s))
-  near-all h l = let z : k ≡ 16 = omega arith in rw z at e
+  pub near-all : k ≤ 64 → 64 ≤ k → near ≡ anyOf isFeed (take 64 (drop at s))
+  near-all h l = let z : k ≡ 64 = omega arith in rw z at e
+
+-- a byte's place
+pub place-feed : (b k : ℕ) → b ≡ 10 → k ≡ cond (isFeed b) k 64
+place-feed b k h = simp (eq-eqb b 10 h)
+
+pub place-other : (b k : ℕ) → (b ≡ 10 → ⊥) → 64 ≡ cond (isFeed b) k 64
+place-other b k h = simp (ne-eqb b 10 h)
+
+-- the least place of a line feed, with the first k bytes seen; 64 as long as none has come
+pub record Least (s : List ℕ) (at k first : ℕ) : Type 0 where
+  pub found : first < k → at + first ≡ endWhile notFeed s at
+  pub none : k ≤ first → (first ≡ 64) × (endWhile notFeed s at ≡ endWhile notFeed s (at + k))
+
+pub least-none : (s : List ℕ) (at : ℕ) → Least s at 0 64
+least-none s at = record { found = λ h. absurd (omega arith); none = λ h. (refl, rw add-zero) }
+
+module _ (s : List ℕ) (at k first : ℕ) (e : Least s at k first) where
+  -- with the next byte
+  pub least-more : at + 64 ≤ length s → k < 64 → (p r : ℕ) → p ≡ cond (isFeed (getD s (at + k) 0)) k 64 → r ≡ min p first → Least s at (k + 1) r
+  least-more h l p r q m = go (isFeed (getD s (at + k) 0)) refl (leb k first) refl q
+    where
+      seen : first < k → r ≡ first → Least s at (k + 1) r
+      seen u z = record { found = λ x. rw z (e .found u); none = λ x. absurd (omega arith) }
+
+      go : (z : Bool) → isFeed (getD s (at + k) 0) ≡ z → (u : Bool) → leb k first ≡ u → p ≡ cond z k 64 → Least s at (k + 1) r
+      go true f true u q =
+          let n = e .none (leb-true k first u) in
+          let y = feed-here s at (at + k) (n .1) (omega arith) (eqb-true (getD s (at + k) 0) 10 f) in
+          record { found = λ x. omega (arith, n .0, y); none = λ x. absurd (omega (arith, n .0)) }
+      go false f true u q =
+          let n = e .none (leb-true k first u) in
+          record {
+            found = λ x. absurd (omega (arith, n .0));
+            none = λ x. (omega (arith, n .0), feed-later s at (at + k) (n .1) (omega arith) (eqb-false (getD s (at + k) 0) 10 f) ∙ ap (endWhile notFeed s) (add-assoc at k 1));
+          }
+      go true f false u q = seen (leb-false k first u) (omega (arith, leb-false k first u))
+      go false f false u q = seen (leb-false k first u) (omega (arith, leb-false k first u))
+
+  -- all 64 are seen
+  pub least-all : k ≤ 64 → 64 ≤ k → first ≡ min 64 (length (takeWhile notFeed (drop at s)))
+  least-all h l = go (leb k first) refl
+    where
+      go : (b : Bool) → leb k first ≡ b → first ≡ min 64 (length (takeWhile notFeed (drop at s)))
+      go true q = omega (arith, e .none (leb-true k first q) .0, e .none (leb-true k first q) .1)
+      go false q = omega (arith, e .found (leb-false k first q), leb-false k first q)
+
+-- a line feed among 64 bytes stands at the least place
+pub feed-least : (s : List ℕ) (at i r : ℕ) (q : Bool) → endWhile notFeed s at ≡ endWhile notFeed s i → q ≡ anyOf isFeed (take 64 (drop i s)) → q ≡ true
+    → r ≡ min 64 (length (takeWhile notFeed (drop i s))) → i + r ≡ endWhile notFeed s at
+feed-least s at i r q e f t m = omega (arith, anyOf-before isFeed 64 (drop i s) (sym f ∙ t))
 
 -- the lines, put together, are the text
 pub flatten-lines : (s : List ℕ) → flatten (lines s) ≡ s

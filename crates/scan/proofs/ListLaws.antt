@@ -1,7 +1,7 @@
 -- Laws of lists cut by a test of their elements.
 use Prim.Native.Nat.{ℕ, zero, suc, _+_, _≤_, _<_}
 use mathlib.Core.Path.{_≡_, refl, sym, ap, _∙_}
-use mathlib.Core.Bool.{Bool, true, false, cond, not, _||_, or-assoc, or-false}
+use mathlib.Core.Bool.{Bool, true, false, cond, not, _||_, or-assoc, or-false, false≢true}
 use mathlib.Core.List.{List, [], _∷_, _++_, flatten, nil≢cons}
 use native.Mathlib.Omega.{arith}
 use native.Mathlib.Nat.{add-zero}
@@ -80,6 +80,18 @@ module _ {A : Type 0} (p : A → Bool) where
   anyOf-next s i k d h =
       let l : k < length (drop i s) = rw length-drop (omega arith) in
       rw (add-one, take-suc (drop i s) k d l, anyOf-append, getD-drop) (rw or-false)
+
+  -- where one of the first n passes, fewer stand before the first that does
+  pub anyOf-before : (n : ℕ) (s : List A) → anyOf p (take n s) ≡ true → length (takeWhile (λ x. not (p x)) s) < n
+  unfolding anyOf takeWhile
+  anyOf-before zero s e = absurd (false≢true e)
+  anyOf-before (suc n) [] e = absurd (false≢true e)
+  anyOf-before (suc n) (x ∷ s) e = go (p x) e (anyOf-before n s)
+    where
+      go : (z : Bool) → (z || anyOf p (take n s)) ≡ true → (anyOf p (take n s) ≡ true → length (takeWhile (λ x. not (p x)) s) < n)
+          → length (cond (not z) (x ∷ takeWhile (λ x. not (p x)) s) []) < suc n
+      go true e ih = omega arith
+      go false e ih = let h : length (takeWhile (λ x. not (p x)) s) < n = ih e in omega arith
 
   -- what is behind it starts with an element that does not pass
   pub dropWhile-head : (s : List A) (x : A) (t : List A) → dropWhile p s ≡ x ∷ t → p x ≡ false

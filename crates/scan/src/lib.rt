@@ -1,8 +1,9 @@
 // Byte-wise scanning: lines, words, comparison and search.
 ghost use mathlib.Core.Path.{_≡_};
-ghost use Prim.Native.Nat.{_+_, _≤_};
+ghost use mathlib.Core.Bool.{cond};
+ghost use Prim.Native.Nat.{_+_, _≤_, _<_, min};
 ghost use lib.ListN.{length, take, drop};
-ghost use Rattle.scan.specs.Lists.{anyOf, endWhile};
+ghost use Rattle.scan.specs.Lists.{anyOf, takeWhile, endWhile};
 ghost use Rattle.scan.specs.Lines.{isFeed, notFeed, lineEnd};
 ghost use Rattle.scan.specs.Words.{isGap, notGap, nextWord};
 ghost use Rattle.scan.specs.Search.{equal, startsWith, findIn};
@@ -18,18 +19,47 @@ pub enum Found {
     Nothing,
 }
 
-// Whether one of the 16 bytes from `at` on is a line feed. There is no branch: the compiler makes one vector comparison of it.
+// Whether one of the 64 bytes from `at` on is a line feed. There is no branch: the compiler makes vector comparisons of it.
 fn feed_near(s: &[u8], at: usize) -> bool
-    requires { ⌜ at + 16 ≤ length (now s) ⌝ }
-    ensures { λ r. ⌜ r ≡ anyOf isFeed (take 16 (drop at (now (s .entry)))) ⌝ }
+    requires { ⌜ at + 64 ≤ length (now s) ⌝ }
+    ensures { λ r. ⌜ r ≡ anyOf isFeed (take 64 (drop at (now (s .entry)))) ⌝ }
 {
     let mut near = false;
     let mut k = 0;
-    while k < 16 {
+    while k < 64 {
         near = near | (s[at + k] == b'\n');
         k += 1;
     }
     near
+}
+
+// The place k of a byte that is a line feed; 64 for another.
+fn place_of(b: u8, k: usize) -> u8
+    requires { ⌜ k < 64 ⌝ }
+    ensures { λ r. ⌜ r ≡ cond (isFeed b) k 64 ⌝ }
+{
+    if b == b'\n' { k as u8 } else { 64 }
+}
+
+fn least(a: u8, b: u8) -> u8
+    ensures { λ r. ⌜ r ≡ min a b ⌝ }
+{
+    if a < b { a } else { b }
+}
+
+// How many of the 64 bytes stand before the first line feed. Again without a branch, as the least of 64 places: where a line ends no branch
+// would guess.
+fn first_near(s: &[u8], at: usize) -> usize
+    requires { ⌜ at + 64 ≤ length (now s) ⌝ }
+    ensures { λ r. ⌜ r ≡ min 64 (length (takeWhile notFeed (drop at (now (s .entry))))) ⌝ }
+{
+    let mut first: u8 = 64;
+    let mut k: usize = 0;
+    while k < 64 {
+        first = least(place_of(s[at + k], k), first);
+        k += 1;
+    }
+    first as usize
 }
 
 // The place of the next line feed, else the end, byte by byte.
@@ -46,7 +76,7 @@ fn feed_bytewise(s: &[u8], at: usize) -> usize
     i
 }
 
-// The same, with 16 bytes passed over at a time.
+// The same, with 64 bytes looked at at a time.
 fn feed_at(s: &[u8], at: usize) -> usize
     ensures { λ r. ⌜ r ≡ endWhile notFeed (now (s .entry)) at ⌝ }
 {
@@ -54,11 +84,11 @@ fn feed_at(s: &[u8], at: usize) -> usize
         return at;
     }
     let mut i = at;
-    while 16 <= s.len() - i {
+    while 64 <= s.len() - i {
         if feed_near(s, i) {
-            return feed_bytewise(s, i);
+            return i + first_near(s, i);
         }
-        i += 16;
+        i += 64;
     }
     feed_bytewise(s, i)
 }

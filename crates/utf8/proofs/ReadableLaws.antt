@@ -60,30 +60,30 @@ module _ (s : List ℕ) (i : ℕ) (ascii : Bool) (e : ascii ≡ all isOne (take 
   pub seen-all : length s ≤ i → ascii ≡ all isOne s
   seen-all h = e ∙ ap (all isOne) (take-all i s h)
 
--- the same of the 32 bytes from the place `at` on, of which k are seen
+-- the same of the 64 bytes from the place `at` on, of which k are seen
 module _ (s : List ℕ) (at k : ℕ) (ascii : Bool) (e : ascii ≡ all isOne (take k (drop at s))) where
-  pub near-next : at + 32 ≤ length s → k < 32 → (ascii && isOne (getD s (at + k) 0)) ≡ all isOne (take (k + 1) (drop at s))
+  pub near-next : at + 64 ≤ length s → k < 64 → (ascii && isOne (getD s (at + k) 0)) ≡ all isOne (take (k + 1) (drop at s))
   near-next h l = sym (all-next isOne (drop at s) k 0 (rw length-drop (omega arith)) ∙ rw (e, getD-drop))
 
-  pub near-all : k ≤ 32 → 32 ≤ k → ascii ≡ all isOne (take 32 (drop at s))
-  near-all h l = let z : k ≡ 32 = omega arith in rw z at e
+  pub near-all : k ≤ 64 → 64 ≤ k → ascii ≡ all isOne (take 64 (drop at s))
+  near-all h l = let z : k ≡ 64 = omega arith in rw z at e
 
--- and with 32 bytes at a time: those in front of the place i are ASCII, and the next 32 have been looked at
-module _ (s : List ℕ) (i : ℕ) (r : Bool) (q : r ≡ all isOne (take 32 (drop i s))) where
+-- and with 64 bytes at a time: those in front of the place i are ASCII, and the next 64 have been looked at
+module _ (s : List ℕ) (i : ℕ) (r : Bool) (q : r ≡ all isOne (take 64 (drop i s))) where
   pub ascii-bad : not r ≡ true → false ≡ all isOne s
   ascii-bad n =
       sym (all-split isOne s i
-      ∙ ap (λ b. all isOne (take i s) && b) (all-split isOne (drop i s) 32)
+      ∙ ap (λ b. all isOne (take i s) && b) (all-split isOne (drop i s) 64)
       ∙ simp (← q, not-true r n, and-false))
 
-  pub ascii-more : true ≡ all isOne (take i s) → not r ≡ false → true ≡ all isOne (take (i + 32) s)
-  ascii-more e y = sym (all-more isOne s i 32 ∙ simp (← e, ← q, not-false r y))
+  pub ascii-more : true ≡ all isOne (take i s) → not r ≡ false → true ≡ all isOne (take (i + 64) s)
+  ascii-more e y = sym (all-more isOne s i 64 ∙ simp (← e, ← q, not-false r y))
 
--- the place i is behind the last 32 bytes, or among them
-pub ascii-last : (s : List ℕ) (i : ℕ) (r : Bool) → true ≡ all isOne (take i s) → length s - 32 ≤ i → r ≡ all isOne (take 32 (drop (length s - 32) s)) → r ≡ all isOne s
+-- the place i is behind the last 64 bytes, or among them
+pub ascii-last : (s : List ℕ) (i : ℕ) (r : Bool) → true ≡ all isOne (take i s) → length s - 64 ≤ i → r ≡ all isOne (take 64 (drop (length s - 64) s)) → r ≡ all isOne s
 ascii-last s i r e h q =
-    q ∙ ap (all isOne) (take-all 32 (drop (length s - 32) s) (simp length-drop (omega arith)))
-    ∙ sym (all-split isOne s (length s - 32) ∙ simp (front (length s - 32) h))
+    q ∙ ap (all isOne) (take-all 64 (drop (length s - 64) s) (simp length-drop (omega arith)))
+    ∙ sym (all-split isOne s (length s - 64) ∙ simp (front (length s - 64) h))
   where
     front : (n : ℕ) → n ≤ i → all isOne (take n s) ≡ true
     front n h = ap (all isOne) (sym (take-take n i s h)) ∙ both _ _ (sym (all-split isOne (take i s) n) ∙ sym e) .0

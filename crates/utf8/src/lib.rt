@@ -77,14 +77,14 @@ pub fn char_len(s: &[u8]) -> usize
     0
 }
 
-// Whether the 32 bytes from `at` on are ASCII. There is no branch: the compiler makes vector comparisons of it.
+// Whether the 64 bytes from `at` on are ASCII. There is no branch: the compiler makes vector comparisons of it.
 fn ascii_near(s: &[u8], at: usize) -> bool
-    requires { ⌜ at + 32 ≤ length (now s) ⌝ }
-    ensures { λ r. ⌜ r ≡ all isOne (take 32 (drop at (now (s .entry)))) ⌝ }
+    requires { ⌜ at + 64 ≤ length (now s) ⌝ }
+    ensures { λ r. ⌜ r ≡ all isOne (take 64 (drop at (now (s .entry)))) ⌝ }
 {
     let mut ascii = true;
     let mut k = 0;
-    while k < 32 {
+    while k < 64 {
         ascii = ascii & (s[at + k] <= 0x7F);
         k += 1;
     }
@@ -104,21 +104,21 @@ fn ascii_bytewise(s: &[u8]) -> bool
     ascii
 }
 
-// Is it ASCII? With 32 bytes at a time. Of the last 32 some may have been seen already: that is quicker than a loop over the rest.
+// Is it ASCII? With 64 bytes at a time. Of the last 64 some may have been seen already: that is quicker than a loop over the rest.
 pub fn is_ascii(s: &[u8]) -> bool
     ensures { λ r. ⌜ r ≡ all isOne (now (s .entry)) ⌝ }
 {
     let n = s.len();
-    if n < 32 {
+    if n < 64 {
         return ascii_bytewise(s);
     }
-    let last = n - 32;
+    let last = n - 64;
     let mut i = 0;
     while i < last {
         if !ascii_near(s, i) {
             return false;
         }
-        i += 32;
+        i += 64;
     }
     ascii_near(s, last)
 }

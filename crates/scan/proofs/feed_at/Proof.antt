@@ -4,12 +4,17 @@ use lib.ListN.{length}
 use Rattle.scan.specs.Lists.{endWhile}
 use Rattle.scan.specs.Lines.{notFeed}
 use Rattle.scan.proofs.ListLaws.{scan-end}
-use Rattle.scan.proofs.LineLaws.{feed-far, feed-from}
+use Rattle.scan.proofs.LineLaws.{feed-far, feed-least, feed-from}
 use Rattle.scan.proofs.feed_at.Statement.{statement}
 use Rattle.scan.proofs.feed_at.Tie as tie
 use borrow.Author.Needs.{needs}
+use Rattle.scan.proofs.feed_at.Reads as reads
+use Rattle.scan.proofs.feed_at.Lts as lts
+use Rattle.scan.proofs.feed_bytewise.Reads as feed-bytewise-reads
+use Rattle.scan.proofs.feed_near.Reads as feed-near-reads
+use Rattle.scan.proofs.first_near.Reads as first-near-reads
 
-ruleset laws = (refl, scan-end, feed-far, feed-from)
+ruleset laws = (refl, scan-end, feed-far, feed-least, feed-from)
 
 abbrev Inv-loop : tie.InvT-loop
 Inv-loop s at i₀ i = (i ≤ length s) × (endWhile notFeed s at ≡ endWhile notFeed s i)
@@ -29,8 +34,11 @@ sub-loop c = search (laws, needs)
 feed-near-requires : tie.Need-feed-near-requires Inv-loop μ-loop
 feed-near-requires c κs = search (laws, needs)
 
-feed-bytewise-requires : tie.Need-feed-bytewise-requires Inv-loop μ-loop
-feed-bytewise-requires c κs = search (laws, needs)
+first-near-requires : tie.Need-first-near-requires Inv-loop μ-loop
+first-near-requires c κs = search (laws, needs)
+
+add-result : tie.Need-add-result Inv-loop μ-loop
+add-result c = search (laws, needs)
 
 returns-2 : tie.Need-returns-2 Inv-loop μ-loop
 returns-2 c = search (laws, needs)
@@ -44,8 +52,8 @@ loop-less c = search (laws, needs)
 loop-again : tie.Need-loop-again Inv-loop μ-loop
 loop-again c = search (laws, needs)
 
-feed-bytewise-requires-2 : tie.Need-feed-bytewise-requires-2 Inv-loop μ-loop
-feed-bytewise-requires-2 c κs = search (laws, needs)
+feed-bytewise-requires : tie.Need-feed-bytewise-requires Inv-loop μ-loop
+feed-bytewise-requires c κs = search (laws, needs)
 
 returns-3 : tie.Need-returns-3 Inv-loop μ-loop
 returns-3 c = search (laws, needs)
@@ -60,10 +68,11 @@ feed-at-spec =
     loop-holds
     sub-loop
     feed-near-requires
-    feed-bytewise-requires
+    first-near-requires
+    add-result
     returns-2
     add-i
     loop-less
     loop-again
-    feed-bytewise-requires-2
+    feed-bytewise-requires
     returns-3)

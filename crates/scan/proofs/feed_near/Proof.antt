@@ -11,10 +11,10 @@ use borrow.Author.Needs.{needs}
 ruleset laws = (near-none, near-more, near-all)
 
 abbrev Inv-loop : tie.InvT-loop
-Inv-loop s at near₀ k₀ near k = (k ≤ 16) × (near ≡ anyOf isFeed (take k (drop at s)))
+Inv-loop s at near₀ k₀ near k = (k ≤ 64) × (near ≡ anyOf isFeed (take k (drop at s)))
 
 abbrev μ-loop : tie.MeasureT-loop
-μ-loop s at near₀ k₀ near k = 16 - k
+μ-loop s at near₀ k₀ near k = 64 - k
 
 loop-holds : tie.Need-loop-holds Inv-loop μ-loop
 loop-holds c = search (laws, needs)

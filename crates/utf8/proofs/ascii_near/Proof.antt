@@ -10,10 +10,10 @@ use borrow.Author.Needs.{needs}
 ruleset laws = (seen-none, near-next, near-all)
 
 abbrev Inv-loop : tie.InvT-loop
-Inv-loop s at ascii₀ k₀ ascii k = (k ≤ 32) × (ascii ≡ all isOne (take k (drop at s)))
+Inv-loop s at ascii₀ k₀ ascii k = (k ≤ 64) × (ascii ≡ all isOne (take k (drop at s)))
 
 abbrev μ-loop : tie.MeasureT-loop
-μ-loop s at ascii₀ k₀ ascii k = 32 - k
+μ-loop s at ascii₀ k₀ ascii k = 64 - k
 
 loop-holds : tie.Need-loop-holds Inv-loop μ-loop
 loop-holds c = search (laws, needs)
