@@ -2,14 +2,16 @@
 use mathlib.Core.Path.{_≡_, refl, sym, ap, _∙_}
 use mathlib.Core.List.{List, [], _∷_, _++_, append-assoc, append-nil}
 use mathlib.Core.Bool.{Bool, true, false, cond}
-use Prim.Native.Nat.{ℕ, suc, _+_, _-_, _≤_, _<_, min}
+use Prim.Native.Nat.{ℕ, suc, _+_, _-_, _/_, _%_, _≤_, _<_, min}
 use native.Mathlib.Nat.{zero-add, add-zero, add-assoc, min-eq-left}
 use native.Mathlib.Numerals.{add-one}
 use native.Mathlib.Omega.{arith}
 use lib.ListN.{length, getD, take, drop, set, drop-of-length-le, length-append, length-take, length-drop}
-use lib.Seq.{paste, paste-zero, paste-suc, length-paste, take-paste, drop-paste, drop-drop, drop-append-add, take-append-add, take-append-le, take-all, take-length, set-split, append-snoc}
+use lib.Seq.{sets, sets-eq, paste, paste-zero, paste-suc, length-paste, take-paste, drop-paste, drop-drop, drop-append-add, take-add, take-append-add, take-append-le, take-all, take-length, take-take, length-take-le, set-split, append-snoc}
 use lib.Dec.{leb}
 use borrow.Author.Tests.{le-leb, lt-leb, leb-true, leb-false}
+use Rattle.word.specs.Word.{bytes, littleEndian, number}
+use Rattle.word.proofs.Laws.{length-bytes, Bytes, take-bytes, drop-bytes, bytes-back}
 use Rattle.output.specs.Output.{room, overwrite, Written, front, answer}
 use Rattle.output.specs.declared.Put.the-variants.{Wrote, TooShort}
 
@@ -72,14 +74,16 @@ take-two n m t u h z = go (leb (length t) n) refl
     go false e =
         let k : m ≡ 0 = z (leb-false (length t) n e) in rw k (simp (append-nil, add-zero) (take-append-le n t u h))
 
+-- behind what was pasted the list is as it was
+behind-paste : (d : List ℕ) (at n m : ℕ) (t : List ℕ) → at ≤ length d → n ≤ length t → drop (at + n + m) (paste d at t n) ≡ drop (at + n + m) d
+behind-paste d at n m t h l =
+    sym (drop-drop m (at + n) (paste d at t n)) ∙ ap (drop m) (drop-paste d at t n h l) ∙ drop-drop m (at + n) d
+
 paste-two : (d : List ℕ) (at n m : ℕ) (t u : List ℕ) → at ≤ length d → n ≤ length t → (n < length t → m ≡ 0)
     → paste (paste d at t n) (at + n) u m ≡ paste d at (t ++ u) (n + m)
 paste-two d at n m t u h l z =
-    rw (take-paste d at t n h l, back, take-two n m t u l z)
+    rw (take-paste d at t n h l, behind-paste d at n m t h l, take-two n m t u l z)
     (ap (λ (x : List ℕ). x ++ drop (at + n + m) d) (append-assoc (take at d) (take n t) (take m u)) ∙ rw add-assoc)
-  where
-    back : drop (at + n + m) (paste d at t n) ≡ drop (at + n + m) d
-    back = sym (drop-drop m (at + n) (paste d at t n)) ∙ ap (drop m) (drop-paste d at t n h l) ∙ drop-drop m (at + n) d
 
 -- one text behind another is the two texts' append, whether or not they fit
 pub overwrite-two : (out : List ℕ) (at : ℕ) (t u : List ℕ)
@@ -153,15 +157,78 @@ byte-written b out at h =
     }
 
 -- one more byte copied
-pub copied : (t out new : List ℕ) (at n i : ℕ) → n ≡ min (length t) (length out - at) → new ≡ paste out at t i → i < n
+pub copied : (t out new : List ℕ) (at n i : ℕ) → n ≤ length t → n ≤ length out - at → new ≡ paste out at t i → i < n
     → set new (at + i) (getD t i 0) ≡ paste out at t (i + 1)
-copied t out new at n i e f h = rw (f, add-one) (paste-suc out at t i 0 (omega arith) (omega arith))
+copied t out new at n i e g f h = rw (f, add-one) (paste-suc out at t i 0 (omega arith) (omega arith))
 
--- n bytes copied, as many as there is room for
-pub bytes-written : (t out new : List ℕ) (at n i : ℕ) → n ≡ min (length t) (length out - at) → new ≡ paste out at t i → i ≤ n → n ≤ i
-    → Written t out at new (at + n)
+pub all-copied : (t out new : List ℕ) (at n i : ℕ) → new ≡ paste out at t i → i ≤ n → n ≤ i → new ≡ paste out at t n
+all-copied t out new at n i f h l = let z : i ≡ n = omega arith in f ∙ rw z
+
+-- the code divides once where the definition divides again and again
+eight : (v : ℕ)
+    → v % 256 ∷ v / 256 % 256 ∷ v / 65536 % 256 ∷ v / 16777216 % 256 ∷ v / 4294967296 % 256 ∷ v / 1099511627776 % 256 ∷ v / 281474976710656 % 256 ∷ v / 72057594037927936 ∷ []
+    ≡ littleEndian v
+unfolding bytes
+eight v =
+    let d2 : v / 65536 ≡ v / 256 / 256 = omega arith in
+    let d3 : v / 16777216 ≡ v / 65536 / 256 = omega arith in
+    let d4 : v / 4294967296 ≡ v / 16777216 / 256 = omega arith in
+    let d5 : v / 1099511627776 ≡ v / 4294967296 / 256 = omega arith in
+    let d6 : v / 281474976710656 ≡ v / 1099511627776 / 256 = omega arith in
+    let d7 : v / 72057594037927936 ≡ v / 281474976710656 / 256 = omega arith in
+    rw (d7, d6, d5, d4, d3, d2)
+
+-- the eight bytes of a word stored
+pub stored : (out : List ℕ) (v at : ℕ) → at + 8 ≤ length out
+    → sets out at (v % 256 ∷ v / 256 % 256 ∷ v / 65536 % 256 ∷ v / 16777216 % 256 ∷ v / 4294967296 % 256 ∷ v / 1099511627776 % 256 ∷ v / 281474976710656 % 256 ∷ v / 72057594037927936 ∷ [])
+    ≡ take at out ++ littleEndian v ++ drop (at + 8) out
+stored out v at h =
+    let size : length (littleEndian v) ≡ 8 = length-bytes 7 v in
+    ap (sets out at) (eight v) ∙ sets-eq (littleEndian v) out at (omega arith) ∙ rw size
+
+-- The first i bytes of the text stand there. Eight bytes from k on are written as one word, some of them perhaps where they stand already.
+module _ (t out new : List ℕ) (at n i : ℕ) (b : Bytes t) (l : n ≤ length t) (r : n ≤ length out - at) (f : new ≡ paste out at t i) where
+  eight-copied : (k v : ℕ) (next : List ℕ) → k ≤ i → i ≤ k + 8 → k + 8 ≤ n → v ≡ number (take 8 (drop k t))
+      → next ≡ take (at + k) new ++ littleEndian v ++ drop (at + k + 8) new → next ≡ paste out at t (k + 8)
+  eight-copied k v next h u w e g =
+      g
+      ∙ rw (f, front, back, word)
+      (ap (λ (x : List ℕ). x ++ drop (at + k + 8) out) (append-assoc (take at out) (take k t) (take 8 (drop k t)))
+      ∙ rw (take-add k 8 t, add-assoc at k 8))
+    where
+      front : take (at + k) (paste out at t i) ≡ take at out ++ take k t
+      front =
+          let size : length (take at out) ≡ at = length-take-le at out (omega arith) in
+          sym (take-take (at + k) (at + i) (paste out at t i) (omega arith))
+          ∙ rw (take-paste out at t i (omega arith) (omega arith)) (rw size at (take-append-add (take at out) (take i t) k) ∙ rw (take-take k i t h))
+
+      back : drop (at + k + 8) (paste out at t i) ≡ drop (at + k + 8) out
+      back =
+          let z : at + k + 8 ≡ at + i + (k + 8 - i) = omega arith in
+          rw z (behind-paste out at i (k + 8 - i) t (omega arith) (omega arith))
+
+      word : littleEndian v ≡ take 8 (drop k t)
+      word =
+          let s = take 8 (drop k t) in
+          let size : length s ≡ 8 = simp (length-take, length-drop) (omega arith) in
+          rw e (bytes-back 7 s (take-bytes 8 (drop k t) (drop-bytes k t b)) (omega arith) ∙ rw size (append-nil s))
+
+  -- the next eight, and the last
+  pub eight-more : (v : ℕ) (next : List ℕ) → i < n - 8 → v ≡ number (take 8 (drop i t))
+      → next ≡ take (at + i) new ++ littleEndian v ++ drop (at + i + 8) new → next ≡ paste out at t (i + 8)
+  eight-more v next h = eight-copied i v next (omega arith) (omega arith) (omega arith)
+
+  pub eight-last : (v : ℕ) (next : List ℕ) → 8 ≤ n → i ≤ n → n - 8 ≤ i → v ≡ number (take 8 (drop (n - 8) t))
+      → next ≡ take (at + (n - 8)) new ++ littleEndian v ++ drop (at + (n - 8) + 8) new → next ≡ paste out at t n
+  eight-last v next m u h e g =
+      let z : n - 8 + 8 ≡ n = omega arith in
+      eight-copied (n - 8) v next h (omega arith) (omega arith) e g ∙ rw z
+
+-- n bytes copied, as many as there is room for; next is the list where the two ways to copy meet
+pub bytes-written : (t out new next : List ℕ) (at n : ℕ) → n ≡ min (length t) (length out - at) → new ≡ paste out at t n → next ≡ new
+    → Written t out at next (at + n)
 unfolding overwrite room
-bytes-written t out new at n i e f h l = let z : i ≡ n = omega arith in record { list = f ∙ rw (z, e); place = rw e }
+bytes-written t out new next at n e f g = record { list = g ∙ f ∙ rw e; place = rw e }
 
 -- what has room of a text, written to its part of the list
 take-room : (out : List ℕ) (at : ℕ) (t : List ℕ) → take (room out at t) t ≡ take (length out - at) t

@@ -1,65 +1,34 @@
-use mathlib.Core.Path.{_≡_}
-use Prim.Native.Nat.{_-_, _≤_}
-use lib.ListN.{length, length-set}
-use lib.Seq.{paste, paste-zero}
-use Rattle.output.proofs.Output.{bytes-written, copied}
+use mathlib.Core.Logic.{⊎-elim}
+use Rattle.output.proofs.Output.{bytes-written}
 use borrow.Author.Needs.{needs}
 use Rattle.output.proofs.write_bytes.Statement.{statement}
 use Rattle.output.proofs.write_bytes.Tie as tie
 
-abbrev Inv-loop : tie.InvT-loop
-Inv-loop text out₀ at n i₀ out i = (length out ≡ length out₀) × (i ≤ n) × (out ≡ paste out₀ at text i)
-
-abbrev μ-loop : tie.MeasureT-loop
-μ-loop text out₀ at n i₀ out i = n - i
-
-room-for-requires : tie.Need-room-for-requires Inv-loop μ-loop
+room-for-requires : tie.Need-room-for-requires
 room-for-requires c κs = search needs
 
-loop-holds : tie.Need-loop-holds Inv-loop μ-loop
-loop-holds c = search (paste-zero, needs)
+copy-few-requires : tie.Need-copy-few-requires
+copy-few-requires c κs = search needs
 
-shared-slice-read-out : tie.Need-shared-slice-read-out Inv-loop μ-loop
-shared-slice-read-out c = search needs
+copy-many-requires : tie.Need-copy-many-requires
+copy-many-requires c κs = search needs
 
-add-out : tie.Need-add-out Inv-loop μ-loop
-add-out c = search needs
-
-slice-write-out : tie.Need-slice-write-out Inv-loop μ-loop
-slice-write-out c = search needs
-
-add-i : tie.Need-add-i Inv-loop μ-loop
-add-i c = search needs
-
-loop-less : tie.Need-loop-less Inv-loop μ-loop
-loop-less c = search needs
-
-loop-again : tie.Need-loop-again Inv-loop μ-loop
-loop-again c = (simp length-set (search needs), search needs, search copied)
-
-add-result : tie.Need-add-result Inv-loop μ-loop
+add-result : tie.Need-add-result
 add-result c = search needs
 
-same-length : tie.Need-same-length Inv-loop μ-loop
-same-length c = search needs
+same-length : tie.Need-same-length
+same-length c = ⊎-elim (λ w. search needs) (λ w. search needs) (c .if1 .came)
 
-returns : tie.Need-returns Inv-loop μ-loop
-returns c = search bytes-written
+returns : tie.Need-returns
+returns c = ⊎-elim (λ w. search bytes-written) (λ w. search bytes-written) (c .if1 .came)
 
 pub write-bytes-spec : {M : Type 1} → statement M
 write-bytes-spec =
     tie.close
     (tie.spec
-    Inv-loop
-    μ-loop
     room-for-requires
-    loop-holds
-    shared-slice-read-out
-    add-out
-    slice-write-out
-    add-i
-    loop-less
-    loop-again
+    copy-few-requires
+    copy-many-requires
     add-result
     same-length
     returns)
