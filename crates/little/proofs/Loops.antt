@@ -12,23 +12,9 @@ use lib.Seq.{sets, sets-eq, take-suc, take-at, drop-at, drop-drop, take-suc-set,
 use Rattle.output.specs.Output.{front, answer}
 use Rattle.output.specs.declared.Put.the-variants.{Wrote, TooShort}
 use Rattle.word.specs.Word.{bytes, littleEndian, number}
-use Rattle.word.proofs.Laws.{length-bytes}
+use Rattle.word.proofs.Laws.{length-bytes, eight}
 use Rattle.little.specs.Little.{bytesOf, wordsIn}
 use Rattle.little.proofs.Laws.{length-bytes-of, bytes-append}
-
--- the code divides once where the definition divides again and again
-eight : (v : ℕ)
-    → v % 256 ∷ v / 256 % 256 ∷ v / 65536 % 256 ∷ v / 16777216 % 256 ∷ v / 4294967296 % 256 ∷ v / 1099511627776 % 256 ∷ v / 281474976710656 % 256 ∷ v / 72057594037927936 ∷ []
-    ≡ littleEndian v
-unfolding bytes
-eight v =
-    let d2 : v / 65536 ≡ v / 256 / 256 = omega arith in
-    let d3 : v / 16777216 ≡ v / 65536 / 256 = omega arith in
-    let d4 : v / 4294967296 ≡ v / 16777216 / 256 = omega arith in
-    let d5 : v / 1099511627776 ≡ v / 4294967296 / 256 = omega arith in
-    let d6 : v / 281474976710656 ≡ v / 1099511627776 / 256 = omega arith in
-    let d7 : v / 72057594037927936 ≡ v / 281474976710656 / 256 = omega arith in
-    rw (d7, d6, d5, d4, d3, d2)
 
 all : (out : List ℕ) (v : ℕ) → length out ≡ 8 → length out ≤ length (littleEndian v)
 all out v h = rw (length-bytes 7 v) (omega arith)

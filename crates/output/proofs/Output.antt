@@ -10,8 +10,8 @@ use lib.ListN.{length, getD, take, drop, set, drop-of-length-le, length-append, 
 use lib.Seq.{sets, sets-eq, paste, paste-zero, paste-suc, length-paste, take-paste, drop-paste, drop-drop, drop-append-add, take-add, take-append-add, take-append-le, take-all, take-length, take-take, length-take-le, set-split, append-snoc}
 use lib.Dec.{leb}
 use borrow.Author.Tests.{le-leb, lt-leb, leb-true, leb-false}
-use Rattle.word.specs.Word.{bytes, littleEndian, number}
-use Rattle.word.proofs.Laws.{length-bytes, Bytes, take-bytes, drop-bytes, bytes-back}
+use Rattle.word.specs.Word.{littleEndian, number}
+use Rattle.word.proofs.Laws.{length-bytes, eight, Bytes, take-bytes, drop-bytes, bytes-back}
 use Rattle.output.specs.Output.{room, overwrite, Written, front, answer}
 use Rattle.output.specs.declared.Put.the-variants.{Wrote, TooShort}
 
@@ -163,20 +163,6 @@ copied t out new at n i e g f h = rw (f, add-one) (paste-suc out at t i 0 (omega
 
 pub all-copied : (t out new : List ℕ) (at n i : ℕ) → new ≡ paste out at t i → i ≤ n → n ≤ i → new ≡ paste out at t n
 all-copied t out new at n i f h l = let z : i ≡ n = omega arith in f ∙ rw z
-
--- the code divides once where the definition divides again and again
-eight : (v : ℕ)
-    → v % 256 ∷ v / 256 % 256 ∷ v / 65536 % 256 ∷ v / 16777216 % 256 ∷ v / 4294967296 % 256 ∷ v / 1099511627776 % 256 ∷ v / 281474976710656 % 256 ∷ v / 72057594037927936 ∷ []
-    ≡ littleEndian v
-unfolding bytes
-eight v =
-    let d2 : v / 65536 ≡ v / 256 / 256 = omega arith in
-    let d3 : v / 16777216 ≡ v / 65536 / 256 = omega arith in
-    let d4 : v / 4294967296 ≡ v / 16777216 / 256 = omega arith in
-    let d5 : v / 1099511627776 ≡ v / 4294967296 / 256 = omega arith in
-    let d6 : v / 281474976710656 ≡ v / 1099511627776 / 256 = omega arith in
-    let d7 : v / 72057594037927936 ≡ v / 281474976710656 / 256 = omega arith in
-    rw (d7, d6, d5, d4, d3, d2)
 
 -- the eight bytes of a word stored
 pub stored : (out : List ℕ) (v at : ℕ) → at + 8 ≤ length out

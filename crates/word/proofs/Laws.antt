@@ -9,7 +9,7 @@ use mir.Val.{Fits}
 use lib.ListN.{length, getD, take, drop, replicate}
 use lib.Pow.{pow-add, shl-shr, shr-shr, mod-pow-add, shr-lt}
 use lib.Seq.{getD-drop}
-use Rattle.word.specs.Word.{bytes, number}
+use Rattle.word.specs.Word.{bytes, littleEndian, number}
 
 pub length-bytes : (n v : ℕ) → length (bytes n v) ≡ suc n
 unfolding bytes
@@ -108,3 +108,17 @@ bytes-back (suc n) (b ∷ s) h l =
     let rest : (b + 256 * number s) / 256 ≡ number s = omega (arith, h 0) in
     let e : suc (suc n) - suc (length s) ≡ suc n - length s = omega arith in
     rw (low, rest, e, bytes-back n s (λ i. h (suc i)) (omega arith))
+
+-- code divides once where the definition divides again and again
+pub eight : (v : ℕ)
+    → v % 256 ∷ v / 256 % 256 ∷ v / 65536 % 256 ∷ v / 16777216 % 256 ∷ v / 4294967296 % 256 ∷ v / 1099511627776 % 256 ∷ v / 281474976710656 % 256 ∷ v / 72057594037927936 ∷ []
+    ≡ littleEndian v
+unfolding bytes
+eight v =
+    let d2 : v / 65536 ≡ v / 256 / 256 = omega arith in
+    let d3 : v / 16777216 ≡ v / 65536 / 256 = omega arith in
+    let d4 : v / 4294967296 ≡ v / 16777216 / 256 = omega arith in
+    let d5 : v / 1099511627776 ≡ v / 4294967296 / 256 = omega arith in
+    let d6 : v / 281474976710656 ≡ v / 1099511627776 / 256 = omega arith in
+    let d7 : v / 72057594037927936 ≡ v / 281474976710656 / 256 = omega arith in
+    rw (d7, d6, d5, d4, d3, d2)
