@@ -9,13 +9,11 @@ use native.Mathlib.Omega.{arith}
 use lib.ListN.{length, getD, drop, drop-of-length-le}
 use lib.Seq.{drop-cons}
 use lib.Dec.{T, eqb, leb}
-use lib.Ieee.{Float, binary64, fits, toBits, ofBits}
+use lib.Ieee.{Float, binary64, toBits, ofBits}
 use lib.Ieee.Bits.{toBits-ofBits, ofBits-fits}
 use borrow.Author.Tests.{eqb-true, leb-true}
-use Rattle.seconds.specs.Seconds.{isTimestamp, timestampOfBits}
+use Rattle.seconds.specs.Seconds.{isTimestamp}
 use Rattle.seconds.proofs.Inverse.{no-nan}
-use Rattle.seconds.specs.declared.TimestampRead.{TimestampRead}
-use Rattle.seconds.specs.declared.TimestampRead.the-variants as time
 use Rattle.network.specs.declared.IpAddr.{IpAddr}
 use Rattle.network.specs.declared.IpAddr.the-variants.{V4, V6}
 use Rattle.network.specs.declared.NetworkPrefix.{NetworkPrefix}
@@ -23,7 +21,7 @@ use Rattle.text_dump.specs.declared.Remembered.{Remembered}
 use Rattle.text_dump.specs.declared.Remembered.the-variants.{Nothing, Invalid, Valid}
 use Rattle.text_dump.specs.declared.State.{State}
 use Rattle.codec.specs.Words.{addressWords, rememberedWords, stateWords}
-use Rattle.codec.specs.Spelling.{addressOf, withLength, prefixOf, asValid, rememberedOf, withPeer, withTimestamp, withRemembered, stateOf, FitsAddress, FitsPrefix, FitsRemembered, Fits}
+use Rattle.codec.specs.Spelling.{addressOf, withLength, prefixOf, asValid, rememberedOf, withPeer, withRemembered, stateButTime, stateOf, FitsAddress, FitsPrefix, FitsRemembered, Fits}
 use Rattle.codec.specs.declared.AddressWords.{AddressWords}
 use Rattle.codec.specs.declared.RememberedWords.{RememberedWords}
 
@@ -109,18 +107,8 @@ module _ (m k u l n : ℕ) (x : Remembered) where
       go false e h = empty (eqb k 0) (eqb u 0) (eqb l 0) (eqb n 0) refl refl refl refl h
 
 -- the timestamp
-timestamp-spelled : (b : ℕ) (t : Float) → timestampOfBits b ≡ time.Timestamp t → (b < 2 ^ 64 → toBits binary64 t ≡ b) × T (fits binary64 t) × T (isTimestamp t)
-unfolding timestampOfBits
-timestamp-spelled b t h = go (isTimestamp (ofBits binary64 b)) refl h
-  where
-    go : (x : Bool) → isTimestamp (ofBits binary64 b) ≡ x → cond x (time.Timestamp (ofBits binary64 b)) time.Nothing ≡ time.Timestamp t
-        → (b < 2 ^ 64 → toBits binary64 t ≡ b) × T (fits binary64 t) × T (isTimestamp t)
-    go true e h =
-        let is : ofBits binary64 b ≡ t = cc in
-        let one : T (isTimestamp (ofBits binary64 b)) = subst T (sym e) tt in
-        subst (λ (s : Float). (b < 2 ^ 64 → toBits binary64 s ≡ b) × T (fits binary64 s) × T (isTimestamp s)) is
-        (λ small. toBits-ofBits binary64 b small (no-nan (ofBits binary64 b) one), ofBits-fits binary64 b, one)
-    go false e h = let z : _≡_ {A = ℕ} 0 1 = cc in absurd (omega arith)
+timestamp-spelled : (b : ℕ) → T (isTimestamp (ofBits binary64 b)) → b < 2 ^ 64 → toBits binary64 (ofBits binary64 b) ≡ b
+timestamp-spelled b h small = toBits-ofBits binary64 b small (no-nan (ofBits binary64 b) h)
 
 -- sixteen words
 listed : (w : List ℕ) → length w ≡ 16
@@ -139,31 +127,31 @@ module _ (w : List ℕ) (σ : State) where
   Its-words τ = length w ≡ 16 → getD w 9 0 < 2 ^ 64 → w ≡ stateWords τ
 
   pub spelled : stateOf w ≡ some σ → Its-words σ × Fits σ
-  unfolding stateOf stateWords
-  spelled h = by-peer (addressOf (getD w 5 0) (getD w 6 0) (getD w 7 0)) refl h
+  unfolding stateOf stateButTime stateWords
+  spelled h = by-time (isTimestamp at) refl h
     where
-      all : (a : IpAddr) → addressOf (getD w 5 0) (getD w 6 0) (getD w 7 0) ≡ some a → getD w 8 0 ≤ 4294967295
-          → (t : Float) → timestampOfBits (getD w 9 0) ≡ time.Timestamp t
+      at : Float
+      at = ofBits binary64 (getD w 9 0)
+
+      all : T (isTimestamp at) → (a : IpAddr) → addressOf (getD w 5 0) (getD w 6 0) (getD w 7 0) ≡ some a → getD w 8 0 ≤ 4294967295
           → (m : Option Remembered) → rememberedOf (getD w 10 0) (getD w 11 0) (getD w 12 0) (getD w 13 0) (getD w 14 0) ≡ m
-          → withRemembered w a t m ≡ some σ → Its-words σ × Fits σ
-      all a ea en t et (some m) em h =
+          → withRemembered w a at m ≡ some σ → Its-words σ × Fits σ
+      all t a ea en (some m) em h =
           let p = address-spelled (getD w 5 0) (getD w 6 0) (getD w 7 0) a ea in
-          let s = timestamp-spelled (getD w 9 0) t et in
           let r = remembered-spelled (getD w 10 0) (getD w 11 0) (getD w 12 0) (getD w 13 0) (getD w 14 0) m em in
           subst (λ (τ : State). Its-words τ × Fits τ) (inside h)
-          (λ size small. listed w size ∙ sym (rw (p .0, s .0 small, r .0)), record { peer = p .1; asn = en; float = s .1; timestamp = s .2; remembered = r .1 })
-      all a ea en t et none em h = absurd (clash h)
+          (λ size small. listed w size ∙ sym (rw (p .0, timestamp-spelled (getD w 9 0) t small, r .0)), record { peer = p .1; asn = en; float = ofBits-fits binary64 (getD w 9 0); timestamp = t; remembered = r .1 })
+      all t a ea en none em h = absurd (clash h)
 
-      by-time : (a : IpAddr) → addressOf (getD w 5 0) (getD w 6 0) (getD w 7 0) ≡ some a → getD w 8 0 ≤ 4294967295
-          → (t : TimestampRead) → timestampOfBits (getD w 9 0) ≡ t → withTimestamp w a t ≡ some σ → Its-words σ × Fits σ
-      by-time a ea en (time.Timestamp t) et h = all a ea en t et (rememberedOf (getD w 10 0) (getD w 11 0) (getD w 12 0) (getD w 13 0) (getD w 14 0)) refl h
-      by-time a ea en time.Nothing et h = absurd (clash h)
+      by-asn : T (isTimestamp at) → (a : IpAddr) → addressOf (getD w 5 0) (getD w 6 0) (getD w 7 0) ≡ some a → (b : Bool) → leb (getD w 8 0) 4294967295 ≡ b
+          → cond b (withRemembered w a at (rememberedOf (getD w 10 0) (getD w 11 0) (getD w 12 0) (getD w 13 0) (getD w 14 0))) none ≡ some σ → Its-words σ × Fits σ
+      by-asn t a ea true eb h = all t a ea (leb-true (getD w 8 0) 4294967295 eb) (rememberedOf (getD w 10 0) (getD w 11 0) (getD w 12 0) (getD w 13 0) (getD w 14 0)) refl h
+      by-asn t a ea false eb h = absurd (clash h)
 
-      by-asn : (a : IpAddr) → addressOf (getD w 5 0) (getD w 6 0) (getD w 7 0) ≡ some a → (b : Bool) → leb (getD w 8 0) 4294967295 ≡ b
-          → cond b (withTimestamp w a (timestampOfBits (getD w 9 0))) none ≡ some σ → Its-words σ × Fits σ
-      by-asn a ea true eb h = by-time a ea (leb-true (getD w 8 0) 4294967295 eb) (timestampOfBits (getD w 9 0)) refl h
-      by-asn a ea false eb h = absurd (clash h)
+      by-peer : T (isTimestamp at) → (o : Option IpAddr) → addressOf (getD w 5 0) (getD w 6 0) (getD w 7 0) ≡ o → withPeer w o ≡ some σ → Its-words σ × Fits σ
+      by-peer t (some a) ea h = by-asn t a ea (leb (getD w 8 0) 4294967295) refl h
+      by-peer t none ea h = absurd (clash h)
 
-      by-peer : (o : Option IpAddr) → addressOf (getD w 5 0) (getD w 6 0) (getD w 7 0) ≡ o → withPeer w o ≡ some σ → Its-words σ × Fits σ
-      by-peer (some a) ea h = by-asn a ea (leb (getD w 8 0) 4294967295) refl h
-      by-peer none ea h = absurd (clash h)
+      by-time : (b : Bool) → isTimestamp at ≡ b → cond b (stateButTime w) none ≡ some σ → Its-words σ × Fits σ
+      by-time true e h = by-peer (subst T (sym e) tt) (addressOf (getD w 5 0) (getD w 6 0) (getD w 7 0)) refl h
+      by-time false e h = absurd (clash h)

@@ -3,23 +3,22 @@ use mathlib.Core.Path.{_≡_, refl, sym, ap, _∙_, subst}
 use mathlib.Core.Bool.{Bool, true, false, not, cond, _&&_, _||_}
 use mathlib.Core.List.{List}
 use mathlib.Core.Option.{Option, some, none}
-use Prim.Native.Nat.{ℕ, _≤_}
+use Prim.Native.Nat.{ℕ, _%_, _≤_, _<_}
 use native.Mathlib.Omega.{arith}
 use lib.ListN.{getD}
 use lib.Dec.{T, eqb, leb}
-use lib.Ieee.{Float, binary64, nanBits, ofBits}
-use lib.Ieee.Bits.{nanBits-is}
-use borrow.Author.Tests.{leb-true, not-true, not-false, eq-eqb, ne-eqb, le-leb}
+use lib.Ieee.{Float, nan, inf, fin, binary64, isNan, ofBits}
+use lib.Ieee.Bits.{nanBits-is, nanBits-above}
+use borrow.Author.Tests.{leb-true, not-true, not-false, eq-eqb, ne-eqb, lt-ltb, le-leb}
 use Rattle.network.specs.declared.IpAddr.{IpAddr}
 use Rattle.network.specs.declared.IpAddr.the-variants.{V4, V6}
 use Rattle.seconds.specs.Seconds.{isTimestamp, timestampOfBits}
 use Rattle.seconds.specs.declared.TimestampRead.{TimestampRead}
 use Rattle.seconds.specs.declared.TimestampRead.the-variants as time
-use Rattle.seconds.proofs.Inverse.{no-nan}
 use Rattle.text_dump.specs.declared.Remembered.{Remembered}
 use Rattle.text_dump.specs.declared.Remembered.the-variants.{Nothing, Invalid, Valid}
 use Rattle.text_dump.specs.declared.State.{State}
-use Rattle.codec.specs.Spelling.{isSome, addressOf, withLength, prefixOf, asValid, rememberedOf, withRemembered, withTimestamp, withPeer, stateOf, asState}
+use Rattle.codec.specs.Spelling.{isSome, addressOf, withLength, prefixOf, asValid, rememberedOf, withRemembered, withPeer, stateButTime, stateOf, asState}
 use Rattle.codec.specs.declared.StateRead.the-variants as state
 
 and-left : (a b : Bool) → (a && b) ≡ true → a ≡ true
@@ -143,7 +142,29 @@ module _ (bits : ℕ) where
         go true f = let z : _≡_ {A = ℕ} 0 1 = cc (timed true f) in absurd (omega arith)
         go false f = refl
 
+-- the float of any bits
+only-nan : (x : Float) → isNan x ≡ true → nan ≡ x
+unfolding isNan
+only-nan nan e = refl
+only-nan (inf s) e = absurd (subst T (sym e) tt)
+only-nan (fin s m t) e = absurd (subst T (sym e) tt)
+
+pub of-nan : (bits : ℕ) → 0x7ff0_0000_0000_0000 < bits % 0x8000_0000_0000_0000 → nan ≡ ofBits binary64 bits
+of-nan bits h = only-nan (ofBits binary64 bits) (sym (nanBits-is binary64 bits) ∙ nanBits-above binary64 bits ∙ lt-ltb _ _ h)
+
 -- a state
+and-true : (a : Bool) → (a && true) ≡ a
+and-true true = refl
+and-true false = refl
+
+and-false : (a : Bool) → (a && false) ≡ false
+and-false true = refl
+and-false false = refl
+
+abbrev pub ifTimed : Option State → Option State
+ifTimed (some σ) = cond (isTimestamp (σ .timestamp)) (some σ) none
+ifTimed none = none
+
 module _ (w : List ℕ) where
   abbrev peer : Option IpAddr
   peer = addressOf (getD w 5 0) (getD w 6 0) (getD w 7 0)
@@ -161,62 +182,86 @@ module _ (w : List ℕ) where
   by-memory a (some m) = refl
   by-memory a none = refl
 
-  by-time : (a : IpAddr) (b : Bool) → (b && isSome memory) ≡ isSome (withTimestamp w a (cond b (time.Timestamp at) time.Nothing))
-  by-time a true = by-memory a memory
-  by-time a false = refl
-
-  by-asn : (a : IpAddr) (b : Bool) → (b && isTimestamp at && isSome memory) ≡ isSome (cond b (withTimestamp w a (timestampOfBits (getD w 9 0))) none)
-  unfolding timestampOfBits
-  by-asn a true = by-time a (isTimestamp at)
+  by-asn : (a : IpAddr) (b : Bool) → (b && isSome memory) ≡ isSome (cond b (withRemembered w a at memory) none)
+  by-asn a true = by-memory a memory
   by-asn a false = refl
 
-  by-peer : (o : Option IpAddr) → (isSome o && small && isTimestamp at && isSome memory) ≡ isSome (withPeer w o)
+  by-peer : (o : Option IpAddr) → (isSome o && small && isSome memory) ≡ isSome (withPeer w o)
   by-peer (some a) = by-asn a small
   by-peer none = refl
 
-  all-tested : (isSome peer && small && isTimestamp at && isSome memory) ≡ isSome (stateOf w)
-  unfolding stateOf
-  all-tested = by-peer peer
+  but-time-tested : (isSome peer && small && isSome memory) ≡ isSome (stateButTime w)
+  unfolding stateButTime
+  but-time-tested = by-peer peer
+
+  by-time : (b : Bool) → (isSome peer && small && b && isSome memory) ≡ isSome (cond b (stateButTime w) none)
+  by-time true = ap (λ (a : Bool). a && isSome memory) (and-true (isSome peer && small)) ∙ but-time-tested
+  by-time false = ap (λ (a : Bool). a && isSome memory) (and-false (isSome peer && small))
 
   pub state-tested : (p t m : Bool) → p ≡ isSome peer → t ≡ isTimestamp at → m ≡ isSome memory → (p && small && t && m) ≡ isSome (stateOf w)
-  state-tested p t m ep et em = rw (ep, et, em) all-tested
+  unfolding stateOf
+  state-tested p t m ep et em = rw (ep, et, em) (by-time (isTimestamp at))
 
-  module _ (r : Bool) (is : r ≡ isSome (stateOf w)) where
-    pub no-state-told : not r ≡ true → state.Nothing ≡ asState (stateOf w)
-    no-state-told h = go (stateOf w) (sym is ∙ not-true r h)
+  module _ (p m : Bool) (ep : p ≡ isSome peer) (em : m ≡ isSome memory) where
+    tested : (p && small && m) ≡ isSome (stateButTime w)
+    tested = rw (ep, em) but-time-tested
+
+    pub no-state-told : not (p && small && m) ≡ true → state.Nothing ≡ asState (stateButTime w)
+    no-state-told h = go (stateButTime w) (sym tested ∙ not-true (p && small && m) h)
       where
         go : (o : Option State) → isSome o ≡ false → state.Nothing ≡ asState o
         go (some σ) e = let z : _≡_ {A = ℕ} 0 1 = cc in absurd (omega arith)
         go none e = refl
 
-    module _ (h : not r ≡ false) where
-      all : (isSome peer && small && isTimestamp at && isSome memory) ≡ true
-      all = all-tested ∙ sym is ∙ not-false r h
+    module _ (h : not (p && small && m) ≡ false) where
+      all : (p && small && m) ≡ true
+      all = not-false (p && small && m) h
 
-      but-memory : (isSome peer && small && isTimestamp at) ≡ true
-      but-memory = and-left (isSome peer && small && isTimestamp at) (isSome memory) all
-
-      but-time : (isSome peer && small) ≡ true
-      but-time = and-left (isSome peer && small) (isTimestamp at) but-memory
+      but-memory : (p && small) ≡ true
+      but-memory = and-left (p && small) m all
 
       pub its-peer : isSome peer ≡ true
-      its-peer = and-left (isSome peer) small but-time
+      its-peer = sym ep ∙ and-left p small but-memory
 
       is-small : small ≡ true
-      is-small = and-right (isSome peer) small but-time
+      is-small = and-right p small but-memory
 
       pub its-asn : getD w 8 0 ≤ 4294967295
       its-asn = leb-true (getD w 8 0) 4294967295 is-small
 
-      is-timed : isTimestamp at ≡ true
-      is-timed = and-right (isSome peer && small) (isTimestamp at) but-memory
-
-      pub its-float : T (not (nanBits binary64 (getD w 9 0)))
-      its-float = rw (nanBits-is binary64 (getD w 9 0)) (no-nan at (subst T (sym is-timed) tt))
-
       pub its-memory : isSome memory ≡ true
-      its-memory = and-right (isSome peer && small && isTimestamp at) (isSome memory) all
+      its-memory = sym em ∙ and-right (p && small) m all
 
-      pub state-told : (a : IpAddr) → peer ≡ some a → (m : Remembered) → memory ≡ some m → asState (withRemembered w a at (some m)) ≡ asState (stateOf w)
-      unfolding stateOf
-      state-told a ea m em = rw (ea, is-small, timed (getD w 9 0) true is-timed, em)
+      pub state-told : (a : IpAddr) → peer ≡ some a → (t : Float) → t ≡ at → (x : Remembered) → memory ≡ some x → asState (withRemembered w a t (some x)) ≡ asState (stateButTime w)
+      unfolding stateButTime
+      state-told a ea t et x ex = rw (ea, is-small, et, ex)
+
+  -- the timestamp of a state but for its time, and what its test leaves
+  abbrev timeOf : Option State → Float
+  timeOf (some σ) = σ .timestamp
+  timeOf none = at
+
+  its-time : timeOf (stateButTime w) ≡ at
+  unfolding stateButTime
+  its-time = go peer
+    where
+      remembers : (a : IpAddr) (m : Option Remembered) → timeOf (withRemembered w a at m) ≡ at
+      remembers a (some m) = refl
+      remembers a none = refl
+
+      tests : (a : IpAddr) (b : Bool) → timeOf (cond b (withRemembered w a at memory) none) ≡ at
+      tests a true = remembers a memory
+      tests a false = refl
+
+      go : (o : Option IpAddr) → timeOf (withPeer w o) ≡ at
+      go (some a) = tests a small
+      go none = refl
+
+  pub if-timed : (o : Option State) → stateButTime w ≡ o → stateOf w ≡ ifTimed o
+  unfolding stateOf
+  if-timed (some σ) e = ap (λ (o : Option State). cond (isTimestamp at) o none) e ∙ ap (λ (t : Float). cond (isTimestamp t) (some σ) none) (sym its-time ∙ ap timeOf e)
+  if-timed none e = ap (λ (o : Option State). cond (isTimestamp at) o none) e ∙ go (isTimestamp at)
+    where
+      go : (b : Bool) → cond {A = Option State} b none none ≡ none
+      go true = refl
+      go false = refl

@@ -4,9 +4,9 @@ use mathlib.Core.Bool.{Bool, true, false, cond}
 use mathlib.Core.Option.{some}
 use lib.Dec.{T, eqb}
 use lib.Ieee.{binary64, fits}
-use lib.Ieee.Bits.{ofBits-toBits}
+use lib.Ieee.Bits.{is-true, ofBits-toBits}
 use borrow.Author.Tests.{le-leb}
-use Rattle.seconds.proofs.Inverse.{timestamp-of-bits}
+use Rattle.seconds.specs.Seconds.{isTimestamp}
 use Rattle.decimal.specs.declared.U32Read.{U32Read}
 use Rattle.decimal.specs.declared.U32Read.the-variants as read
 use Rattle.network.specs.declared.IpAddr.{IpAddr}
@@ -21,7 +21,7 @@ use Rattle.text_dump.specs.declared.Remembered.{Remembered}
 use Rattle.text_dump.specs.declared.Remembered.the-variants.{Nothing, Invalid, Valid}
 use Rattle.text_dump.specs.declared.State.{State}
 use Rattle.codec.specs.Words.{addressWords, rememberedWords, asnWords, originWords, numberWords, stateWords, elementWords}
-use Rattle.codec.specs.Spelling.{addressOf, prefixOf, rememberedOf, withPeer, withRemembered, stateOf, FitsAddress, FitsRemembered, Fits}
+use Rattle.codec.specs.Spelling.{addressOf, prefixOf, rememberedOf, withPeer, withRemembered, stateButTime, stateOf, FitsAddress, FitsRemembered, Fits}
 use Rattle.codec.specs.Element.{addressIn, asnIn, numberIn, originIn, elementIn}
 
 address-back : (a : IpAddr) → FitsAddress a → addressOf (addressWords a .kind) (addressWords a .upper) (addressWords a .lower) ≡ some a
@@ -37,11 +37,12 @@ remembered-back Invalid h = refl
 remembered-back (Valid p) h = rw (address-back (p .addr) (h .0), le-leb (p .len) 255 (h .1))
 
 pub spells : (σ : State) → Fits σ → stateOf (stateWords σ) ≡ some σ
-unfolding stateOf stateWords
+unfolding stateOf stateButTime stateWords
 spells σ h =
-    ap (withPeer (stateWords σ)) (address-back (σ .«peer_ip») (h .peer))
-    ∙ rw (le-leb (σ .«peer_asn» .0) 4294967295 (h .asn), timestamp-of-bits (σ .timestamp) (h .float) (h .timestamp))
-    (ap (withRemembered (stateWords σ) (σ .«peer_ip») (σ .timestamp)) (remembered-back (σ .remembered) (h .remembered)))
+    rw (ofBits-toBits binary64 (σ .timestamp) (h .float), is-true (isTimestamp (σ .timestamp)) (h .timestamp))
+    (ap (withPeer (stateWords σ)) (address-back (σ .«peer_ip») (h .peer))
+    ∙ rw (le-leb (σ .«peer_asn» .0) 4294967295 (h .asn), ofBits-toBits binary64 (σ .timestamp) (h .float))
+    (ap (withRemembered (stateWords σ) (σ .«peer_ip») (σ .timestamp)) (remembered-back (σ .remembered) (h .remembered))))
 
 -- an element
 address-held : (a : IpAddr) → addressIn (addressWords a .kind) (addressWords a .upper) (addressWords a .lower) ≡ a

@@ -5,13 +5,11 @@ use mathlib.Core.List.{List}
 use mathlib.Core.Option.{Option, some, none}
 use lib.ListN.{getD}
 use lib.Dec.{T, eqb, leb}
-use lib.Ieee.{Float, binary64, fits}
+use lib.Ieee.{Float, binary64, fits, ofBits}
 use Rattle.network.specs.declared.IpAddr.{IpAddr}
 use Rattle.network.specs.declared.IpAddr.the-variants.{V4, V6}
 use Rattle.network.specs.declared.NetworkPrefix.{NetworkPrefix}
-use Rattle.seconds.specs.Seconds.{isTimestamp, timestampOfBits}
-use Rattle.seconds.specs.declared.TimestampRead.{TimestampRead}
-use Rattle.seconds.specs.declared.TimestampRead.the-variants as time
+use Rattle.seconds.specs.Seconds.{isTimestamp}
 use Rattle.text_dump.specs.declared.Remembered.{Remembered}
 use Rattle.text_dump.specs.declared.Remembered.the-variants.{Nothing, Invalid, Valid}
 use Rattle.text_dump.specs.declared.State.{State}
@@ -58,18 +56,18 @@ module _ (w : List ℕ) where
       })
   withRemembered peer t none = none
 
-  -- the bits of a timestamp (01, Records)
-  abbrev pub withTimestamp : IpAddr → TimestampRead → Option State
-  withTimestamp peer (time.Timestamp t) = withRemembered peer t (rememberedOf (getD w 10 0) (getD w 11 0) (getD w 12 0) (getD w 13 0) (getD w 14 0))
-  withTimestamp peer time.Nothing = none
-
   -- an AS number is a u32
   abbrev pub withPeer : Option IpAddr → Option State
-  withPeer (some a) = cond (leb (getD w 8 0) 4294967295) (withTimestamp a (timestampOfBits (getD w 9 0))) none
+  withPeer (some a) = cond (leb (getD w 8 0) 4294967295) (withRemembered a (ofBits binary64 (getD w 9 0)) (rememberedOf (getD w 10 0) (getD w 11 0) (getD w 12 0) (getD w 13 0) (getD w 14 0))) none
   withPeer none = none
 
+  -- with any bits as its timestamp
+  unfoldable pub stateButTime : Option State
+  stateButTime = withPeer (addressOf (getD w 5 0) (getD w 6 0) (getD w 7 0))
+
+  -- with the bits of a timestamp (01, Records)
   unfoldable pub stateOf : Option State
-  stateOf = withPeer (addressOf (getD w 5 0) (getD w 6 0) (getD w 7 0))
+  stateOf = cond (isTimestamp (ofBits binary64 (getD w 9 0))) stateButTime none
 
 -- the answers: whether words spell one, and the state
 abbrev pub isSome : {A : Type 0} → Option A → Bool

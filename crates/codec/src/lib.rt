@@ -5,7 +5,7 @@ ghost use mathlib.Core.Option.{some};
 ghost use lib.Ieee.{binary64, toBits, ofBits};
 ghost use Rattle.seconds.specs.Seconds.{isTimestamp};
 ghost use Rattle.codec.specs.Words.{addressWords, rememberedWords, asnWords, originWords, numberWords, stateWords, cursorWords, elementWords};
-ghost use Rattle.codec.specs.Spelling.{isSome, addressOf, rememberedOf, stateOf, asState};
+ghost use Rattle.codec.specs.Spelling.{isSome, addressOf, rememberedOf, stateButTime, stateOf, asState};
 use columns::Columns;
 use decimal::U32Read;
 use elem::Element;
@@ -254,7 +254,7 @@ fn is_remembered(remembered: u64, kind: u64, upper: u64, lower: u64, len: u64) -
     (kind == 0) & (upper == 0) & (lower == 0) & (len == 0) & ((remembered == 0) | (remembered == 1))
 }
 
-// Whether the words spell a state. The conversions below test nothing again.
+// Whether the words spell a state.
 pub fn is_state(w: &[u64; 16]) -> bool
     ensures { λ r. ⌜ r ≡ isSome (stateOf (now (w .entry))) ⌝ }
 {
@@ -264,6 +264,7 @@ pub fn is_state(w: &[u64; 16]) -> bool
         & is_remembered(w[10], w[11], w[12], w[13], w[14])
 }
 
+// This conversion and the next test nothing again.
 fn address_of(kind: u64, upper: u64, lower: u64) -> IpAddr
     requires { ⌜ isSome (addressOf kind upper lower) ≡ true ⌝ }
     ensures { λ r. ⌜ addressOf kind upper lower ≡ some r ⌝ }
@@ -291,14 +292,26 @@ fn remembered_of(remembered: u64, kind: u64, upper: u64, lower: u64, len: u64) -
     Remembered::Nothing
 }
 
-// The state that the words spell; Nothing where they spell none.
-pub fn state_of(w: [u64; 16]) -> StateRead
-    ensures { λ r. ⌜ r ≡ asState (stateOf w) ⌝ }
+// The float of any bits. What becomes of a NaN's is not determined, so the NaN is made here.
+fn float_of(bits: u64) -> f64
+    ensures { λ r. ⌜ r ≡ ofBits binary64 bits ⌝ }
 {
-    if !is_state(&w) {
+    if bits % 0x8000_0000_0000_0000 > 0x7ff0_0000_0000_0000 {
+        return 0.0 / 0.0;
+    }
+    f64::from_bits(bits)
+}
+
+// The state that the words spell with any bits as its timestamp; Nothing where they spell none. It is for next, which refuses what is no timestamp itself.
+pub fn state_but_time(w: [u64; 16]) -> StateRead
+    ensures { λ r. ⌜ r ≡ asState (stateButTime w) ⌝ }
+{
+    let is_peer = is_address(w[5], w[6], w[7]) & (w[8] <= 0xffff_ffff);
+    if !(is_peer & is_remembered(w[10], w[11], w[12], w[13], w[14])) {
         return StateRead::Nothing;
     }
     let peer_ip = address_of(w[5], w[6], w[7]);
+    let timestamp = float_of(w[9]);
     let remembered = remembered_of(w[10], w[11], w[12], w[13], w[14]);
     let columns = Columns {
         next_hop: w[0] as usize,
@@ -311,7 +324,7 @@ pub fn state_of(w: [u64; 16]) -> StateRead
         columns,
         peer_ip,
         peer_asn: Asn(w[8] as u32),
-        timestamp: f64::from_bits(w[9]),
+        timestamp,
         remembered,
         position: w[15] as usize,
     })

@@ -1,11 +1,12 @@
 -- What each exported call leaves, by the tests and answers on the way: one law for each way through it. Assumes nothing.
 use mathlib.Core.Path.{_≡_, refl, sym, ap, _∙_}
-use mathlib.Core.Bool.{Bool, true, false, not, cond}
+use mathlib.Core.Bool.{Bool, true, false, not, cond, _||_}
 use mathlib.Core.List.{List, [], _∷_, _++_}
 use mathlib.Core.Option.{Option, some, none}
 use Prim.Native.Nat.{ℕ, _-_, _≤_, _<_}
 use native.Mathlib.Omega.{arith}
 use lib.ListN.{length, getD, take, drop}
+use lib.Dec.{ltb}
 use lib.Ieee.{Float}
 use borrow.Author.Tests.{not-true, not-false, lt-ltb, le-ltb}
 use mir.Syntax.{w8}
@@ -17,8 +18,10 @@ use Rattle.text_dump_header.specs.declared.HeaderRead.{HeaderRead}
 use Rattle.text_dump_header.specs.declared.TextDumpHeader.{TextDumpHeader}
 use Rattle.text_dump_header.specs.declared.HeaderRead.the-variants as head
 use Rattle.elem.specs.declared.Element.{Element}
-use Rattle.plain_reader.specs.Calls.{element}
-use Rattle.text_dump.specs.State.{cursor, moved}
+use Rattle.columns.specs.Columns.{areRising}
+use Rattle.seconds.specs.Seconds.{isTimestamp}
+use Rattle.plain_reader.specs.Calls.{element, refused}
+use Rattle.text_dump.specs.State.{cursor, moved, validRemembered, spoilt}
 use Rattle.text_dump.specs.Open.{openOf}
 use Rattle.text_dump.specs.Open as Open
 use Rattle.text_dump.specs.Next.{Step, next, told, lent, Answers}
@@ -28,9 +31,10 @@ use Rattle.text_dump.specs.declared.Opened.the-variants.{Table, NoTimestamp, Un
 use Rattle.text_dump.specs.declared.Next.{Next}
 use Rattle.text_dump.specs.declared.Next.the-variants as by
 use Rattle.text_dump.proofs.NextLaws.{next-moved}
-use Rattle.little.specs.Little.{bytesOf}
+use Rattle.little.specs.Little.{bytesOf, wordsIn}
 use Rattle.codec.specs.Words.{cursorWords}
-use Rattle.codec.specs.Spelling.{isSome, asState}
+use Rattle.codec.specs.Spelling.{isSome, stateButTime, asState}
+use Rattle.codec.proofs.Reading.{ifTimed, if-timed}
 use Rattle.codec.specs.declared.StateRead.{StateRead}
 use Rattle.codec.specs.declared.StateRead.the-variants as read
 use Rattle.collector.specs.Bytes.{stateBytes, elementBytes, stateIn}
@@ -111,6 +115,18 @@ module _ (s : List ℕ) where
         go none here e = let z : _≡_ {A = ℕ} 0 1 = cc in absurd (omega arith)
 
 -- fernweeks_next
+no-time : (σ : State) (n : ℕ) → isTimestamp (σ .timestamp) ≡ false → spoilt σ n ≡ true
+unfolding spoilt
+no-time σ n h = rw h (go (ltb n (σ .position) || not (areRising (σ .columns))) (not (validRemembered (σ .remembered))))
+  where
+    go : (a b : Bool) → (a || true || b) ≡ true
+    go true b = refl
+    go false b = refl
+
+refuses : (σ : State) (t : List ℕ) (k : ℕ) → isTimestamp (σ .timestamp) ≡ false → next σ t k ≡ (refused 5, σ)
+unfolding next
+refuses σ t k h = rw (no-time σ (length t) h)
+
 module _ (s part a e : List ℕ) where
   pub next-short-state : length s < 128 → left 9 s a e ≡ nextLeft s part a e
   unfolding nextLeft
@@ -121,21 +137,40 @@ module _ (s part a e : List ℕ) where
     unfolding nextLeft
     next-short-element h = rw (le-ltb (length s) 128 room, lt-ltb (length e) 176 h)
 
-    module _ (room-too : 176 ≤ length e) (r : StateRead) (is : r ≡ asState (stateIn s)) where
+    module _ (room-too : 176 ≤ length e) (r : StateRead) (is : r ≡ asState (stateButTime (wordsIn 16 s))) where
       past-short : nextIn s a e part (stateIn s) ≡ nextLeft s part a e
       unfolding nextLeft
       past-short = rw (le-ltb (length s) 128 room, le-ltb (length e) 176 room-too)
 
+      spelt : (o : Option State) → stateButTime (wordsIn 16 s) ≡ o → stateIn s ≡ ifTimed o
+      unfolding stateIn
+      spelt o h = if-timed (wordsIn 16 s) o h
+
       pub next-no-state : r ≡ read.Nothing → left 5 s a e ≡ nextLeft s part a e
-      next-no-state h = sym (ap (nextIn s a e part) (no-state (stateIn s) (sym h ∙ is))) ∙ past-short
+      next-no-state h = sym (ap (nextIn s a e part) (spelt none (no-state (stateButTime (wordsIn 16 s)) (sym h ∙ is)))) ∙ past-short
 
       module _ (σ : State) (here : r ≡ read.State σ) (x : Next) (new : List ℕ) (answers : Answers (next σ part (length a)) a x new) where
         -- a step, told
         abbrev tells : Step → Left
         tells z = answersIn s a e (z .0) (z .1)
 
+        timed : stateIn s ≡ cond (isTimestamp (σ .timestamp)) (some σ) none
+        timed = spelt (some σ) (some-state (stateButTime (wordsIn 16 s)) σ (sym here ∙ is))
+
+        -- next says 5 of a state whose timestamp is none
         past-next : tells (told x new) ≡ nextLeft s part a e
-        past-next = ap tells (answers .0) ∙ sym (ap (nextIn s a e part) (some-state (stateIn s) σ (sym here ∙ is))) ∙ past-short
+        past-next = ap tells (answers .0) ∙ go (isTimestamp (σ .timestamp)) refl ∙ sym (ap (nextIn s a e part) timed) ∙ past-short
+          where
+            go : (b : Bool) → isTimestamp (σ .timestamp) ≡ b → tells (next σ part (length a)) ≡ nextIn s a e part (cond b (some σ) none)
+            go true h = refl
+            go false h = ap tells (refuses σ part (length a) h)
+
+        its-state : (told x new .0 ≡ refused 5 → ⊥) → stateIn s ≡ some σ
+        its-state other = go (isTimestamp (σ .timestamp)) refl timed
+          where
+            go : (b : Bool) → isTimestamp (σ .timestamp) ≡ b → stateIn s ≡ cond b (some σ) none → stateIn s ≡ some σ
+            go true h f = f
+            go false h f = absurd (other (ap (λ (z : Step). z .0) (answers .0 ∙ refuses σ part (length a) h)))
 
         -- the AS numbers as they are left
         kept : new ≡ lent (told x new .0) a
@@ -143,14 +178,14 @@ module _ (s part a e : List ℕ) where
 
         -- the state's bytes as they are left, where x has the state τ
         module _ (known : (i : ℕ) → Fits w8 (getD s i 0)) (τ : State) (s₁ : List ℕ) (put : s₁ ≡ take 80 s ++ front (bytesOf (cursorWords (τ .remembered) (τ .position))) (drop 80 s)) where
-          put-state : told x new .1 ≡ τ → s₁ ≡ front (stateBytes τ) s
-          put-state h =
+          put-state : (told x new .0 ≡ refused 5 → ⊥) → told x new .1 ≡ τ → s₁ ≡ front (stateBytes τ) s
+          put-state other h =
               let after : next σ part (length a) .1 ≡ τ = ap (λ (z : Step). z .1) (sym (answers .0)) ∙ h in
-              put ∙ moved-bytes s room known σ (some-state (stateIn s) σ (sym here ∙ is)) (cursor τ) τ (ap (λ (υ : State). moved σ (cursor υ)) (sym after) ∙ next-moved σ part (length a) ∙ after)
+              put ∙ moved-bytes s room known σ (its-state other) (cursor τ) τ (ap (λ (υ : State). moved σ (cursor υ)) (sym after) ∙ next-moved σ part (length a) ∙ after)
 
           pub next-element : (y : Element) (e₁ : List ℕ) → x ≡ by.Element y τ → e₁ ≡ front (elementBytes y) e → left 0 s₁ new e₁ ≡ nextLeft s part a e
           next-element y e₁ h g =
-              let f = put-state (ap (λ (q : Next). told q new .1) h) in
+              let f = put-state (λ k. let z : _≡_ {A = ℕ} 0 1 = cc (ap (λ (q : Next). told q new .0) h) in absurd (omega arith)) (ap (λ (q : Next). told q new .1) h) in
               let n : new ≡ lent (element (y, take (y .count) new)) a = kept ∙ ap (λ (q : Next). lent (told q new .0) a) h in
               ap (λ (l : List ℕ). left 0 l new e₁) f
               ∙ ap (λ (l : List ℕ). left 0 (front (stateBytes τ) s) new l) g
@@ -160,7 +195,7 @@ module _ (s part a e : List ℕ) where
 
           pub next-end : x ≡ by.End τ → left 255 s₁ new e ≡ nextLeft s part a e
           next-end h =
-              let f = put-state (ap (λ (q : Next). told q new .1) h) in
+              let f = put-state (λ k. let z : _≡_ {A = ℕ} 0 1 = cc (ap (λ (q : Next). told q new .0) h) in absurd (omega arith)) (ap (λ (q : Next). told q new .1) h) in
               let n : new ≡ a = kept ∙ ap (λ (q : Next). lent (told q new .0) a) h in
               ap (λ (l : List ℕ). left 255 l new e) f
               ∙ ap (λ (l : List ℕ). left 255 (front (stateBytes τ) s) l e) n

@@ -10,7 +10,7 @@ use Rattle.output.specs.Output.{front}
 use Rattle.output.proofs.Output.{front-part}
 use Rattle.little.specs.Little.{bytesOf, wordsIn}
 use Rattle.codec.specs.Words.{stateWords, cursorWords, elementWords}
-use Rattle.codec.specs.Spelling.{stateOf, isSome, asState}
+use Rattle.codec.specs.Spelling.{stateButTime, stateOf, isSome, asState}
 use Rattle.codec.specs.declared.StateRead.{StateRead}
 use Rattle.elem.specs.declared.Element.{Element}
 use Rattle.text_dump.specs.declared.State.{State}
@@ -20,9 +20,8 @@ module _ (b w w₀ : List ℕ) (room : 128 ≤ length b) (size : length w₀ ≡
   its-words : w ≡ wordsIn 16 b
   its-words = got ∙ rw (size, le-leb 128 (length b) room)
 
-  pub got-state : (r : StateRead) → r ≡ asState (stateOf w) → r ≡ asState (stateIn b)
-  unfolding stateIn
-  got-state r e = e ∙ ap (λ (l : List ℕ). asState (stateOf l)) its-words
+  pub got-state : (r : StateRead) → r ≡ asState (stateButTime w) → r ≡ asState (stateButTime (wordsIn 16 b))
+  got-state r e = e ∙ ap (λ (l : List ℕ). asState (stateButTime l)) its-words
 
   pub held-state : (r : Bool) → r ≡ isSome (stateOf w) → r ≡ isSome (stateIn b)
   unfolding stateIn

@@ -7,9 +7,9 @@ ghost use lib.ListN.{length, take, drop};
 ghost use Rattle.output.specs.Output.{front};
 ghost use Rattle.text_dump_header.specs.Header.{header};
 ghost use Rattle.text_dump_header.specs.Detect.{detect};
-ghost use Rattle.little.specs.Little.{bytesOf};
+ghost use Rattle.little.specs.Little.{bytesOf, wordsIn};
 ghost use Rattle.codec.specs.Words.{cursorWords};
-ghost use Rattle.codec.specs.Spelling.{isSome, asState};
+ghost use Rattle.codec.specs.Spelling.{isSome, stateButTime, asState};
 ghost use Rattle.collector.specs.Bytes.{stateBytes, elementBytes, stateIn};
 ghost use Rattle.collector.specs.Exports.{lineAtFault, openLeft, turnLeft, left, nextLeft};
 use codec::StateRead;
@@ -37,13 +37,14 @@ fn holds_state(state: &[u8]) -> bool
     codec::is_state(&words)
 }
 
+// With any bits as its timestamp: they are left to next, which refuses a state whose timestamp is none, as it refuses bytes that spell no state.
 fn get_state(state: &[u8]) -> StateRead
     requires { ⌜ 128 ≤ length (now state) ⌝ }
-    ensures { λ r. ⌜ r ≡ asState (stateIn (now (state .entry))) ⌝ }
+    ensures { λ r. ⌜ r ≡ asState (stateButTime (wordsIn 16 (now (state .entry)))) ⌝ }
 {
     let mut words = [0u64; 16];
     little::get_words(state, &mut words);
-    codec::state_of(words)
+    codec::state_but_time(words)
 }
 
 fn put_state(s: State, state: &mut [u8])

@@ -12,12 +12,12 @@ slice-aggregate-get-words c = search needs
 get-words-requires : tie.Need-get-words-requires
 get-words-requires c κs = search needs
 
-state-of-requires : tie.Need-state-of-requires
-state-of-requires c κs = search needs
+state-but-time-requires : tie.Need-state-but-time-requires
+state-but-time-requires c κs = search needs
 
 returns : tie.Need-returns
 returns c = search (laws, needs)
 
 pub get-state-spec : {M : Type 1} → statement M
 get-state-spec =
-    tie.close (tie.spec slice-aggregate-get-words get-words-requires state-of-requires returns)
+    tie.close (tie.spec slice-aggregate-get-words get-words-requires state-but-time-requires returns)
