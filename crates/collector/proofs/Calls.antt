@@ -183,7 +183,7 @@ module _ (s part a e : List ℕ) where
               let after : next σ part (length a) .1 ≡ τ = ap (λ (z : Step). z .1) (sym (answers .0)) ∙ h in
               put ∙ moved-bytes s room known σ (its-state other) (cursor τ) τ (ap (λ (υ : State). moved σ (cursor υ)) (sym after) ∙ next-moved σ part (length a) ∙ after)
 
-          pub next-element : (y : Element) (e₁ : List ℕ) → x ≡ by.Element y τ → e₁ ≡ front (elementBytes y) e → left 0 s₁ new e₁ ≡ nextLeft s part a e
+          pub next-element : (y : Element) (e₁ : List ℕ) → x ≡ by.Element τ y → e₁ ≡ front (elementBytes y) e → left 0 s₁ new e₁ ≡ nextLeft s part a e
           next-element y e₁ h g =
               let f = put-state (λ k. let z : _≡_ {A = ℕ} 0 1 = cc (ap (λ (q : Next). told q new .0) h) in absurd (omega arith)) (ap (λ (q : Next). told q new .1) h) in
               let n : new ≡ lent (element (y, take (y .count) new)) a = kept ∙ ap (λ (q : Next). lent (told q new .0) a) h in

@@ -131,7 +131,7 @@ pub extern "C" fn fernweeks_next(
         return 5;
     };
     match s.next(part, asns) {
-        Next::Element(e, after) => {
+        Next::Element(after, e) => {
             put_cursor(after, state);
             put_element(e, element);
             0

@@ -156,7 +156,7 @@ fn reach(columns: Columns, plain: Plain, part: &[u8], ends: &[usize]) -> Reached
             Line::Wrapped(p) => {
                 prefix = Prefix::Valid(p);
             }
-            Line::Route(text, entry) => {
+            Line::Route(entry, text) => {
                 prefix = set_by(text, prefix);
                 if let Prefix::Valid(p) = prefix {
                     return Reached::Route(p, entry, n);

@@ -99,11 +99,11 @@ module _ (σ : State) (b : Place) (start : List ℕ) (n : ℕ) (kept : Kept σ s
           }
 
     -- a route's line is of that line
-    pub its-line : (x : PrefixText) (e : RouteEntry) → y ≡ read.Route x e → read.Route x e ≡ lineOf (σ .columns) l
+    pub its-line : (x : PrefixText) (e : RouteEntry) → y ≡ read.Route e x → read.Route e x ≡ lineOf (σ .columns) l
     its-line x e h = sym h ∙ c
 
   -- a route
-  module _ (x : PrefixText) (e : RouteEntry) (c : read.Route x e ≡ lineOf (σ .columns) l) (q : Packed) (g : plain (rememberedIn q) ≡ replace (textOf x) (plain (rememberedIn (b .memory)))) where
+  module _ (x : PrefixText) (e : RouteEntry) (c : read.Route e x ≡ lineOf (σ .columns) l) (q : Packed) (g : plain (rememberedIn q) ≡ replace (textOf x) (plain (rememberedIn (b .memory)))) where
     abbrev m : Remembered
     m = rememberedIn q
 
@@ -113,7 +113,7 @@ module _ (σ : State) (b : Place) (start : List ℕ) (n : ℕ) (kept : Kept σ s
     fine-behind : Fine σ m
     fine-behind =
         ap (λ (z : Plain NetworkPrefix). spoilt (moved σ (record { at = 0; remembered = z })) 0) (sym (plain-stored (plain m)))
-        ∙ fine-route here (length l) fine-here l (read.Route x e) c 0 0 x e refl m brought
+        ∙ fine-route here (length l) fine-here l (read.Route e x) c 0 0 x e refl m brought
 
     begun-behind : (k : ℕ) → k ≡ keptLen x (b .«start_len») → Begins (frontOf σ) start n m k
     begun-behind k f = rw f (text-keeps (frontOf σ) start n (rememberedIn (b .memory)) (b .«start_len») (kept .begins) x m g)
@@ -121,7 +121,7 @@ module _ (σ : State) (b : Place) (start : List ℕ) (n : ℕ) (kept : Kept σ s
     -- without a valid prefix
     module _ (o : OneOf (0 ∷ 1 ∷ []) (tagOf the-type m)) where
       pub bare : (out : List ℕ) → BodyDoes σ b l out out (step.Took (length l) 0 (there (length l) q 0))
-      bare = moves q 0 (other-route here l 16384 one fine-here (read.Route x e) c x e refl m brought o)
+      bare = moves q 0 (other-route here l 16384 one fine-here (read.Route e x) c x e refl m brought o)
 
       pub bare-keeps : Kept σ start n (there (length l) q 0)
       bare-keeps = record { fine = fine-behind; begins = none-begun start n (rememberedIn (b .memory)) (b .«start_len») m (frontOf σ) (kept .begins) }
@@ -143,8 +143,8 @@ module _ (σ : State) (b : Place) (start : List ℕ) (n : ℕ) (kept : Kept σ s
           go : (q : Bool) → leb (length (asnsOf (pathOf e l))) 16384 ≡ q
               → answered number (nextOf here l .0) (nextOf here l .1)
               ≡ cond q (printedElement number behind (elementFor σ p e (asnsOf (pathOf e l))) (asnsOf (pathOf e l))) (refuse 7 number)
-          go true f = rw (yielding-route here l 16384 one fine-here (read.Route x e) c x e refl p under (leb-true _ 16384 f))
-          go false f = rw (long-route here l 16384 one fine-here (read.Route x e) c x e refl p under (leb-false _ 16384 f))
+          go true f = rw (yielding-route here l 16384 one fine-here (read.Route e x) c x e refl p under (leb-true _ 16384 f))
+          go false f = rw (long-route here l 16384 one fine-here (read.Route e x) c x e refl p under (leb-false _ 16384 f))
 
       acts-so : acts (phaseOf σ b) l ≡ routed σ p e (asnsOf (pathOf e l)) number behind
       acts-so = rw (← counted) is-routed

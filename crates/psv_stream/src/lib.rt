@@ -484,7 +484,7 @@ fn route_line(
 ) -> BodyStep
     requires { ⌜ 65537 ≤ length (now out) ⌝ }
     requires { ⌜ lines (now line) ≡ now line ∷ [] ⌝ }
-    requires { ⌜ read.Route text entry ≡ lineOf (state .columns) (now line) ⌝ }
+    requires { ⌜ read.Route entry text ≡ lineOf (state .columns) (now line) ⌝ }
     requires { ⌜ Kept state (now start) «front_len» b ⌝ }
     ensures { λ r. ⌜ BodyDoes state b (now (line .entry)) (now (out .entry)) (now (out .exit)) r ⌝ }
     ensures { λ r. ⌜ Keeps state (now (start .exit)) «front_len» r ⌝ }
@@ -573,7 +573,7 @@ fn body_line(
                 },
             )
         }
-        Line::Route(text, entry) => route_line(
+        Line::Route(entry, text) => route_line(
             start,
             front_len,
             state,

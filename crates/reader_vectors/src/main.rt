@@ -79,7 +79,7 @@ fn step(r: Reading, text: &[u8], out: &mut [u8]) -> Reading {
     let at = r.at;
     let state = r.state;
     match state.next(text, &mut asns) {
-        Next::Element(e, s) => Reading {
+        Next::Element(s, e) => Reading {
             state: s,
             at: put_element(out, at, e, &asns),
             going: true,

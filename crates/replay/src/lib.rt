@@ -88,7 +88,7 @@ pub fn number(n: Next) -> usize {
 
 pub fn state_in(n: Next) -> State {
     match n {
-        Next::Element(_, s) => s,
+        Next::Element(s, _) => s,
         Next::End(s) => s,
         Next::Spoilt(s) => s,
         Next::Unreadable(s) => s,
@@ -99,7 +99,7 @@ pub fn state_in(n: Next) -> State {
 // The number of an answer, and its element.
 fn put_answer(out: &mut [u8], n: Next, asns: &[u32]) -> usize {
     let k = put_number(out, 0, number(n));
-    let Next::Element(e, _) = n else {
+    let Next::Element(_, e) = n else {
         return k;
     };
     let m = cases::put(out, k, b" ");
@@ -177,7 +177,7 @@ fn state_of(given: Given, plain: Plain, ends: &[usize], base: usize) -> State {
 // The answer that the plain reader's asks for.
 fn next_of(answer: Answer, state: State) -> Next {
     match answer {
-        Answer::Element(e) => Next::Element(e, state),
+        Answer::Element(e) => Next::Element(state, e),
         Answer::End => Next::End(state),
         Answer::Unreadable => Next::Unreadable(state),
         Answer::TooFewPlaces => Next::TooFewPlaces(state),

@@ -114,9 +114,9 @@ module _ (σ : State) (a : ℕ) (fine : spoilt (turned σ) a ≡ false) where
     pub fine-wrapped : (p : NetworkPrefix) → y ≡ Wrapped p → spoilt (turned (moved σ (record { at = j; remembered = valid p }))) b ≡ false
     fine-wrapped p h = fine-behind (Wrapped p) h
 
-    pub fine-route : (x : PrefixText) (e : RouteEntry) → y ≡ Route x e → (n : Remembered) → plain n ≡ replace (textOf x) (plain (σ .remembered))
+    pub fine-route : (x : PrefixText) (e : RouteEntry) → y ≡ Route e x → (n : Remembered) → plain n ≡ replace (textOf x) (plain (σ .remembered))
         → spoilt (turned (moved σ (record { at = j; remembered = plain n }))) b ≡ false
-    fine-route x e h n g = rw g (fine-behind (Route x e) h)
+    fine-route x e h n g = rw g (fine-behind (Route e x) h)
 
 -- a valid prefix that is remembered behind a route is the one that it comes under
 pub comes-under : (x : PrefixText) (m n : Remembered) (p : NetworkPrefix) → plain n ≡ replace (textOf x) (plain m) → n ≡ Valid p → replace (textOf x) (plain m) ≡ valid p
@@ -166,7 +166,7 @@ module _ (σ : State) (l : List ℕ) (k : ℕ) (one : lines l ≡ l ∷ []) (fin
     pub wrapped-line : (p : NetworkPrefix) → y ≡ Wrapped p → next (turned σ) l k ≡ (end, moved σ (record { at = length l; remembered = valid p }))
     wrapped-line p h = over (Valid p) (loop.wraps (turned σ) l 0 (σ .remembered) begun some (length l) ends y said-here p h)
 
-    module _ (x : PrefixText) (e : RouteEntry) (h : y ≡ Route x e) where
+    module _ (x : PrefixText) (e : RouteEntry) (h : y ≡ Route e x) where
       module _ (n : Remembered) (g : plain n ≡ replace (textOf x) (plain (σ .remembered))) where
         -- a route without a valid prefix, as an `if let` knows it, and as the arms of a `match` do
         pub other-route : OneOf (0 ∷ 1 ∷ []) (tagOf the-type n) → next (turned σ) l k ≡ (end, moved σ (record { at = length l; remembered = plain n }))

@@ -79,8 +79,8 @@ module _ (σ : State) (t : List ℕ) where
         pub wraps : (p : NetworkPrefix) → y ≡ Wrapped p → Came e (Valid p)
         wraps p h k = came k ∙ loop.wraps (rules σ) t (cursor σ) k i e (plain m) inside here p (says ∙ ap (said (between σ t i e)) h)
 
-        module _ (x : PrefixText) (r : RouteEntry) (h : y ≡ Route x r) (n : Remembered) (g : plain n ≡ replace (textOf x) (plain m)) where
-          is-route : rules σ .classify (between σ t i e) ≡ said (between σ t i e) (Route x r)
+        module _ (x : PrefixText) (r : RouteEntry) (h : y ≡ Route r x) (n : Remembered) (g : plain n ≡ replace (textOf x) (plain m)) where
+          is-route : rules σ .classify (between σ t i e) ≡ said (between σ t i e) (Route r x)
           is-route = says ∙ ap (said (between σ t i e)) h
 
           pub passes-route : OneOf (0 ∷ 1 ∷ []) (tagOf the-type n) → Came e n
@@ -139,13 +139,13 @@ module _ (σ : State) (p : NetworkPrefix) (e : RouteEntry) (line : List ℕ) (j 
     taken = rw laid (take-at (asnsOf path) (drop (length (asnsOf path)) old) (length (asnsOf path)) refl)
 
     pub yields : (o : OptAsn) → o ≡ originAsn (take n new) → (y : Elem) → y ≡ elementOf σ p e n o → (s : State) → s ≡ moved σ (record { at = j; remembered = valid p })
-        → Answers step old (Element y s) new
+        → Answers step old (Element s y) new
     yields o eo y ey s es =
         let made : Elem = elementOf σ p e (length (asnsOf path)) (originAsn (asnsOf path)) in
         let origin : o ≡ originAsn (asnsOf path) = eo ∙ ap originAsn (ap (λ (k : ℕ). take k new) counted ∙ taken) in
         let same : y ≡ made = ey ∙ ap (λ (x : OptAsn). elementOf σ p e n x) origin ∙ ap (λ (k : ℕ). elementOf σ p e k (originAsn (asnsOf path))) counted in
-        by-path (element (made, asnsOf path), moved σ (record { at = j; remembered = valid p })) (rw fits) (Element y s)
-        (ap (λ (v : Elem). told (Element v s) new) same ∙ ap (λ (l : List ℕ). (element (made, l), s)) taken ∙ ap (λ (z : State). (element (made, asnsOf path), z)) es)
+        by-path (element (made, asnsOf path), moved σ (record { at = j; remembered = valid p })) (rw fits) (Element s y)
+        (ap (λ (v : Elem). told (Element s v) new) same ∙ ap (λ (l : List ℕ). (element (made, l), s)) taken ∙ ap (λ (z : State). (element (made, asnsOf path), z)) es)
         laid
 
 -- next's ways out, by what the loop reached

@@ -22,6 +22,6 @@ module _ (Holds : NetworkPrefix → Type 0) (read-holds : (s : List ℕ) (p : Ne
       go Unreadable h = tt
       go Passed h = tt
       go (Wrapped p) h = h
-      go (Route Blank e) h = tt
-      go (Route Invalid e) h = tt
-      go (Route (Valid p) e) h = h
+      go (Route e Blank) h = tt
+      go (Route e Invalid) h = tt
+      go (Route e (Valid p)) h = h

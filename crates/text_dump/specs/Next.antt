@@ -32,7 +32,7 @@ next σ t k = cond (spoilt σ (length t)) (refused 5, σ) (stepped σ (next-at (
 
 -- the answers' numbers and values, with the lent list as next leaves it: an element's AS numbers are the first of it
 abbrev pub told : Next → List ℕ → Step
-told (Element e σ) asns = (element (e, take (e .count) asns), σ)
+told (Element σ e) asns = (element (e, take (e .count) asns), σ)
 told (End σ) asns = (end, σ)
 told (Spoilt σ) asns = (refused 5, σ)
 told (Unreadable σ) asns = (refused 6, σ)

@@ -34,7 +34,7 @@ abbrev pub said : List ℕ → Line → Plain NetworkPrefix Route
 said s Unreadable = unreadable
 said s Passed = passed
 said s (Wrapped p) = wrapped p
-said s (RouteLine x e) = route (textOf x) (e, asnsOf (pathOf e s))
+said s (RouteLine e x) = route (textOf x) (e, asnsOf (pathOf e s))
 
 -- origin AS is the last AS number, or missing (01, Body lines)
 unfoldable pub originAsn : List ℕ → OptAsn

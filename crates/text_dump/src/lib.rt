@@ -50,7 +50,7 @@ pub enum Opened {
 
 // The state behind the element's line or at the part's end; in a refusal the one that was handed in.
 pub enum Next {
-    Element(Element, State),
+    Element(State, Element),
     End(State),
     Spoilt(State),
     Unreadable(State),
@@ -230,7 +230,7 @@ impl State {
                 Line::Wrapped(prefix) => {
                     remembered = Remembered::Valid(prefix);
                 }
-                Line::Route(text, entry) => {
+                Line::Route(entry, text) => {
                     remembered = replaced(text, remembered);
                     if let Remembered::Valid(prefix) = remembered {
                         return Reached::Route(prefix, entry, start, at);
@@ -258,7 +258,7 @@ impl State {
         };
         let origin_asn = origin_asn(asns, count);
         let element = self.element(prefix, entry, count, origin_asn);
-        Next::Element(element, self.moved(end, Remembered::Valid(prefix)))
+        Next::Element(self.moved(end, Remembered::Valid(prefix)), element)
     }
 
     // An element's AS numbers stand in the lent list from place 0 on.

@@ -330,7 +330,7 @@ module _ (s : List ℕ) (c : Columns) (b : Bool) (qb : b ≡ readable s) where
     unfolding lineOf
     readable-line = rw (← qb, not-false b n, qt)
 
-    pub route-line : (p : PrefixText) (e : RouteEntry) → r ≡ Route p e → RouteLine p e ≡ lineOf c s
+    pub route-line : (p : PrefixText) (e : RouteEntry) → r ≡ Route p e → RouteLine e p ≡ lineOf c s
     route-line p e f = sym (readable-line ∙ rw (← q, f))
 
     module _ (m : r ≡ NoRoute) (w : PrefixRead) (qw : w ≡ wrappedOf (c .«next_hop») t) where

@@ -36,7 +36,7 @@ module _ (Holds : NetworkPrefix → Type 0) where
   Brings-line Unreadable = Unit {0}
   Brings-line Passed = Unit {0}
   Brings-line (Wrapped p) = Holds p
-  Brings-line (RouteLine x e) = Brings-text x
+  Brings-line (RouteLine e x) = Brings-text x
 
   abbrev Brings-read : PrefixRead → Type 0
   Brings-read (Prefix p) = Holds p

@@ -94,7 +94,7 @@ wrappedOf nextHop t = cond (leb (length t) nextHop) (readPrefix (column 3 (lengt
 
 -- a route, else a wrapped prefix, else passed over
 abbrev pub lineAs : RouteRead → PrefixRead → Line
-lineAs (Route p e) w = RouteLine p e
+lineAs (Route p e) w = RouteLine e p
 lineAs NoRoute (Prefix p) = Wrapped p
 lineAs NoRoute NoPrefix = Passed
 

@@ -43,7 +43,7 @@ pub enum Line {
     Unreadable,
     Passed,
     Wrapped(NetworkPrefix),
-    Route(PrefixText, RouteEntry),
+    Route(RouteEntry, PrefixText),
 }
 
 // Whether every column has its slice, which of an ASCII line the order of the places tells.
@@ -230,7 +230,7 @@ pub fn line_of(line: &[u8], columns: Columns) -> Line
     }
     let t = text::trim_end(line);
     if let RouteRead::Route(prefix, entry) = any_route(ascii, t, columns) {
-        return Line::Route(prefix, entry);
+        return Line::Route(entry, prefix);
     }
     let PrefixRead::Prefix(p) = parse_wrapped_prefix_line(t, columns.next_hop) else {
         return Line::Passed;

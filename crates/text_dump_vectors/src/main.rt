@@ -185,7 +185,7 @@ fn put_line(out: &mut [u8], line: &[u8], c: Columns) -> usize {
             let k = cases::put(out, 0, b"wrapped ");
             put_prefix(out, k, p)
         }
-        Line::Route(text, e) => put_route(out, line, text, e),
+        Line::Route(e, text) => put_route(out, line, text, e),
     }
 }
 
