@@ -2,16 +2,17 @@
 use mathlib.Core.Path.{_≡_, refl, sym, ap, _∙_}
 use mathlib.Core.List.{List, [], _∷_, _++_, append-assoc, append-nil}
 use mathlib.Core.Bool.{Bool, true, false, cond}
-use Prim.Native.Nat.{ℕ, suc, _+_, _-_, _/_, _%_, _≤_, _<_, min}
+use Prim.Native.Nat.{ℕ, suc, _+_, _-_, _*_, _/_, _%_, _^_, _≤_, _<_, min}
 use native.Mathlib.Nat.{zero-add, add-zero, add-assoc, min-eq-left}
-use native.Mathlib.Numerals.{add-one}
+use native.Mathlib.Numerals.{add-one, add-two, add-three}
 use native.Mathlib.Omega.{arith}
 use lib.ListN.{length, getD, take, drop, set, drop-of-length-le, length-append, length-take, length-drop}
-use lib.Seq.{sets, sets-eq, paste, paste-zero, paste-suc, length-paste, take-paste, drop-paste, drop-drop, drop-append-add, take-add, take-append-add, take-append-le, take-all, take-length, take-take, length-take-le, set-split, append-snoc}
+use lib.Seq.{sets, sets-eq, paste, paste-zero, paste-suc, length-paste, take-paste, drop-paste, drop-cons, drop-drop, drop-append-add, take-add, take-append-add, take-append-le, take-all, take-length, take-take, length-take-le, set-split, append-snoc}
+use lib.Pow.{pow-mono}
 use lib.Dec.{leb}
 use borrow.Author.Tests.{le-leb, lt-leb, leb-true, leb-false}
-use Rattle.word.specs.Word.{littleEndian, number}
-use Rattle.word.proofs.Laws.{length-bytes, eight, Bytes, take-bytes, drop-bytes, bytes-back}
+use Rattle.word.specs.Word.{bytes, littleEndian, number}
+use Rattle.word.proofs.Laws.{length-bytes, eight, four, Bytes, take-bytes, drop-bytes, bytes-back, number-bound}
 use Rattle.output.specs.Output.{room, overwrite, Written, front, answer}
 use Rattle.output.specs.declared.Put.the-variants.{Wrote, TooShort}
 
@@ -164,23 +165,39 @@ copied t out new at n i e g f h = rw (f, add-one) (paste-suc out at t i 0 (omega
 pub all-copied : (t out new : List ℕ) (at n i : ℕ) → new ≡ paste out at t i → i ≤ n → n ≤ i → new ≡ paste out at t n
 all-copied t out new at n i f h l = let z : i ≡ n = omega arith in f ∙ rw z
 
--- the eight bytes of a word stored
-pub stored : (out : List ℕ) (v at : ℕ) → at + 8 ≤ length out
-    → sets out at (v % 256 ∷ v / 256 % 256 ∷ v / 65536 % 256 ∷ v / 16777216 % 256 ∷ v / 4294967296 % 256 ∷ v / 1099511627776 % 256 ∷ v / 281474976710656 % 256 ∷ v / 72057594037927936 ∷ [])
-    ≡ take at out ++ littleEndian v ++ drop (at + 8) out
-stored out v at h =
-    let size : length (littleEndian v) ≡ 8 = length-bytes 7 v in
-    ap (sets out at) (eight v) ∙ sets-eq (littleEndian v) out at (omega arith) ∙ rw size
+-- `four_at`: the four bytes from at on
+pub four-added : (s : List ℕ) (at : ℕ) → at + 4 ≤ length s
+    → getD s at 0 + 256 * getD s (at + 1) 0 + 65536 * getD s (at + 2) 0 + 16777216 * getD s (at + 3) 0 ≡ number (take 4 (drop at s))
+unfolding number
+four-added s at h =
+    rw (add-one, add-two, add-three, drop-cons s at 0 (omega arith), drop-cons s (suc at) 0 (omega arith), drop-cons s (suc (suc at)) 0 (omega arith), drop-cons s (suc (suc (suc at))) 0 (omega arith))
+    (omega arith)
 
--- The first i bytes of the text stand there. Eight bytes from k on are written as one word, some of them perhaps where they stand already.
+-- the bytes of a word stored
+module _ (out : List ℕ) (v at : ℕ) where
+  word-stored : (m : ℕ) → at + suc m ≤ length out → sets out at (bytes m v) ≡ take at out ++ bytes m v ++ drop (at + suc m) out
+  word-stored m h =
+      let size : length (bytes m v) ≡ suc m = length-bytes m v in
+      sets-eq (bytes m v) out at (omega arith) ∙ rw size
+
+  pub eight-stored : at + 8 ≤ length out
+      → sets out at (v % 256 ∷ v / 256 % 256 ∷ v / 65536 % 256 ∷ v / 16777216 % 256 ∷ v / 4294967296 % 256 ∷ v / 1099511627776 % 256 ∷ v / 281474976710656 % 256 ∷ v / 72057594037927936 ∷ [])
+      ≡ take at out ++ littleEndian v ++ drop (at + 8) out
+  eight-stored h = ap (sets out at) (eight v) ∙ word-stored 7 h
+
+  pub four-stored : at + 4 ≤ length out
+      → sets out at (v % 256 ∷ v / 256 % 256 ∷ v / 65536 % 256 ∷ v / 16777216 ∷ []) ≡ take at out ++ bytes 3 v ++ drop (at + 4) out
+  four-stored h = ap (sets out at) (four v) ∙ word-stored 3 h
+
+-- The first i bytes of the text stand there. The suc m bytes from k on are written as one word, some of them perhaps where they stand already.
 module _ (t out new : List ℕ) (at n i : ℕ) (b : Bytes t) (l : n ≤ length t) (r : n ≤ length out - at) (f : new ≡ paste out at t i) where
-  eight-copied : (k v : ℕ) (next : List ℕ) → k ≤ i → i ≤ k + 8 → k + 8 ≤ n → v ≡ number (take 8 (drop k t))
-      → next ≡ take (at + k) new ++ littleEndian v ++ drop (at + k + 8) new → next ≡ paste out at t (k + 8)
-  eight-copied k v next h u w e g =
+  word-copied : (m k v : ℕ) (next : List ℕ) → k ≤ i → i ≤ k + suc m → k + suc m ≤ n → v ≡ number (take (suc m) (drop k t))
+      → next ≡ take (at + k) new ++ bytes m v ++ drop (at + k + suc m) new → next ≡ paste out at t (k + suc m)
+  word-copied m k v next h u w e g =
       g
       ∙ rw (f, front, back, word)
-      (ap (λ (x : List ℕ). x ++ drop (at + k + 8) out) (append-assoc (take at out) (take k t) (take 8 (drop k t)))
-      ∙ rw (take-add k 8 t, add-assoc at k 8))
+      (ap (λ (x : List ℕ). x ++ drop (at + k + suc m) out) (append-assoc (take at out) (take k t) (take (suc m) (drop k t)))
+      ∙ rw (take-add k (suc m) t, add-assoc at k (suc m)))
     where
       front : take (at + k) (paste out at t i) ≡ take at out ++ take k t
       front =
@@ -188,33 +205,55 @@ module _ (t out new : List ℕ) (at n i : ℕ) (b : Bytes t) (l : n ≤ length t
           sym (take-take (at + k) (at + i) (paste out at t i) (omega arith))
           ∙ rw (take-paste out at t i (omega arith) (omega arith)) (rw size at (take-append-add (take at out) (take i t) k) ∙ rw (take-take k i t h))
 
-      back : drop (at + k + 8) (paste out at t i) ≡ drop (at + k + 8) out
+      back : drop (at + k + suc m) (paste out at t i) ≡ drop (at + k + suc m) out
       back =
-          let z : at + k + 8 ≡ at + i + (k + 8 - i) = omega arith in
-          rw z (behind-paste out at i (k + 8 - i) t (omega arith) (omega arith))
+          let z : at + k + suc m ≡ at + i + (k + suc m - i) = omega arith in
+          rw z (behind-paste out at i (k + suc m - i) t (omega arith) (omega arith))
 
-      word : littleEndian v ≡ take 8 (drop k t)
+      word : bytes m v ≡ take (suc m) (drop k t)
       word =
-          let s = take 8 (drop k t) in
-          let size : length s ≡ 8 = simp (length-take, length-drop) (omega arith) in
-          rw e (bytes-back 7 s (take-bytes 8 (drop k t) (drop-bytes k t b)) (omega arith) ∙ rw size (append-nil s))
+          let s = take (suc m) (drop k t) in
+          let size : length s ≡ suc m = simp (length-take, length-drop) (omega arith) in
+          let none : suc m - suc m ≡ 0 = omega arith in
+          rw e (bytes-back m s (take-bytes (suc m) (drop k t) (drop-bytes k t b)) (omega arith) ∙ rw (size, none) (append-nil s))
+
+  -- the last of n bytes
+  word-last : (m v : ℕ) (next : List ℕ) → suc m ≤ n → i ≤ n → n - suc m ≤ i → v ≡ number (take (suc m) (drop (n - suc m) t))
+      → next ≡ take (at + (n - suc m)) new ++ bytes m v ++ drop (at + (n - suc m) + suc m) new → next ≡ paste out at t n
+  word-last m v next j u h e g =
+      let z : n - suc m + suc m ≡ n = omega arith in
+      word-copied m (n - suc m) v next h (omega arith) (omega arith) e g ∙ rw z
 
   -- the next eight, and the last
   pub eight-more : (v : ℕ) (next : List ℕ) → i < n - 8 → v ≡ number (take 8 (drop i t))
       → next ≡ take (at + i) new ++ littleEndian v ++ drop (at + i + 8) new → next ≡ paste out at t (i + 8)
-  eight-more v next h = eight-copied i v next (omega arith) (omega arith) (omega arith)
+  eight-more v next h = word-copied 7 i v next (omega arith) (omega arith) (omega arith)
 
   pub eight-last : (v : ℕ) (next : List ℕ) → 8 ≤ n → i ≤ n → n - 8 ≤ i → v ≡ number (take 8 (drop (n - 8) t))
       → next ≡ take (at + (n - 8)) new ++ littleEndian v ++ drop (at + (n - 8) + 8) new → next ≡ paste out at t n
-  eight-last v next m u h e g =
-      let z : n - 8 + 8 ≡ n = omega arith in
-      eight-copied (n - 8) v next h (omega arith) (omega arith) e g ∙ rw z
+  eight-last = word-last 7
 
--- n bytes copied, as many as there is room for; next is the list where the two ways to copy meet
-pub bytes-written : (t out new next : List ℕ) (at n : ℕ) → n ≡ min (length t) (length out - at) → new ≡ paste out at t n → next ≡ new
-    → Written t out at next (at + n)
+-- the first four and the last four, of at most eight
+module _ (t out mid next : List ℕ) (at n v w : ℕ) (b : Bytes t) (l : n ≤ length t) (r : n ≤ length out - at) where
+  pub four-twice : 4 ≤ n → n ≤ 8 → v ≡ number (take 4 t) → mid ≡ take at out ++ bytes 3 v ++ drop (at + 4) out
+      → w ≡ number (take 4 (drop (n - 4) t)) → next ≡ take (at + (n - 4)) mid ++ bytes 3 w ++ drop (at + (n - 4) + 4) mid → next ≡ paste out at t n
+  four-twice h u e f = word-last t out mid at n 4 b l r first 3 w next h h (omega arith)
+    where
+      first : mid ≡ paste out at t 4
+      first = word-copied t out out at n 0 b l r (paste-zero out at t) 3 0 v mid (omega arith) (omega arith) (omega arith) e (rw add-zero f)
+
+-- `put_four` stores what `four_at` reads
+pub four-fits : (t : List ℕ) (k v : ℕ) → Bytes t → v ≡ number (take 4 (drop k t)) → v < 4294967296
+four-fits t k v b e =
+    let s = take 4 (drop k t) in
+    let size : length s ≤ 4 = simp length-take (omega arith) in
+    let top : 2 ^ (8 * length s) ≤ 2 ^ 32 = pow-mono {j = 32} (omega arith) in
+    omega (arith, number-bound s (take-bytes 4 (drop k t) (drop-bytes k t b)))
+
+-- n bytes copied, as many as there is room for
+pub bytes-written : (t out new : List ℕ) (at n : ℕ) → n ≡ min (length t) (length out - at) → new ≡ paste out at t n → Written t out at new (at + n)
 unfolding overwrite room
-bytes-written t out new next at n e f g = record { list = g ∙ f ∙ rw e; place = rw e }
+bytes-written t out new at n e f = record { list = f ∙ rw e; place = rw e }
 
 -- what has room of a text, written to its part of the list
 take-room : (out : List ℕ) (at : ℕ) (t : List ℕ) → take (room out at t) t ≡ take (length out - at) t

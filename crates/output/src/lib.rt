@@ -1,10 +1,10 @@
 // Text written into lent lists, for every crate that prints.
 ghost use mathlib.Core.Path.{_≡_};
-ghost use Prim.Native.Nat.{_+_, _-_, _≤_, min};
+ghost use Prim.Native.Nat.{_+_, _-_, _≤_, _<_, min};
 ghost use mathlib.Core.List.{[], _∷_, _++_};
 ghost use lib.ListN.{length, take, drop};
 ghost use lib.Seq.{paste};
-ghost use Rattle.word.specs.Word.{number, littleEndian};
+ghost use Rattle.word.specs.Word.{number, bytes, littleEndian};
 ghost use Rattle.output.specs.Output.{Written};
 
 // What a call answers that prints into a lent list or refuses to.
@@ -59,6 +59,26 @@ fn put_eight(v: u64, out: &mut [u8], at: usize)
     out[at + 7] = (v / 0x100_0000_0000_0000) as u8;
 }
 
+fn four_at(s: &[u8], at: usize) -> u64
+    requires { ⌜ at + 4 ≤ length (now s) ⌝ }
+    ensures { λ r. ⌜ r ≡ number (take 4 (drop at (now (s .entry)))) ⌝ }
+{
+    wide(s[at])
+        + 0x100 * wide(s[at + 1])
+        + 0x1_0000 * wide(s[at + 2])
+        + 0x100_0000 * wide(s[at + 3])
+}
+
+fn put_four(v: u64, out: &mut [u8], at: usize)
+    requires { ⌜ (v < 0x1_0000_0000) × (at + 4 ≤ length (now out)) ⌝ }
+    ensures { λ _. ⌜ now (out .exit) ≡ take at (now (out .entry)) ++ bytes 3 v ++ drop (at + 4) (now (out .entry)) ⌝ }
+{
+    out[at] = (v % 256) as u8;
+    out[at + 1] = (v / 0x100 % 256) as u8;
+    out[at + 2] = (v / 0x1_0000 % 256) as u8;
+    out[at + 3] = (v / 0x100_0000) as u8;
+}
+
 // The first n bytes of the text, byte by byte.
 fn copy_few(text: &[u8], n: usize, out: &mut [u8], at: usize)
     requires { ⌜ (n ≤ length (now text)) × (n ≤ length (now out) - at) ⌝ }
@@ -86,15 +106,30 @@ fn copy_many(text: &[u8], n: usize, out: &mut [u8], at: usize)
     put_eight(eight_at(text, last), out, at + last);
 }
 
+// The first n bytes of the text, the first four and the last four at once.
+fn copy_some(text: &[u8], n: usize, out: &mut [u8], at: usize)
+    requires { ⌜ (4 ≤ n) × (n ≤ 8) × (n ≤ length (now text)) × (n ≤ length (now out) - at) ⌝ }
+    ensures { λ _. ⌜ now (out .exit) ≡ paste (now (out .entry)) at (now (text .entry)) n ⌝ }
+{
+    let last = n - 4;
+    put_four(four_at(text, 0), out, at);
+    // Some of the last four may stand there already.
+    put_four(four_at(text, last), out, at + last);
+}
+
 pub fn write_bytes(text: &[u8], out: &mut [u8], at: usize) -> usize
     ensures { λ r. ⌜ Written (now (text .entry)) (now (out .entry)) at (now (out .exit)) r ⌝ }
 {
     let n = room_for(text.len(), out.len(), at);
-    if n < 8 {
-        copy_few(text, n, out, at);
-    } else {
+    if 8 <= n {
         copy_many(text, n, out, at);
+        return at + n;
     }
+    if 4 <= n {
+        copy_some(text, n, out, at);
+        return at + n;
+    }
+    copy_few(text, n, out, at);
     at + n
 }
 

@@ -122,3 +122,10 @@ eight v =
     let d6 : v / 281474976710656 ≡ v / 1099511627776 / 256 = omega arith in
     let d7 : v / 72057594037927936 ≡ v / 281474976710656 / 256 = omega arith in
     rw (d7, d6, d5, d4, d3, d2)
+
+pub four : (v : ℕ) → v % 256 ∷ v / 256 % 256 ∷ v / 65536 % 256 ∷ v / 16777216 ∷ [] ≡ bytes 3 v
+unfolding bytes
+four v =
+    let d2 : v / 65536 ≡ v / 256 / 256 = omega arith in
+    let d3 : v / 16777216 ≡ v / 65536 / 256 = omega arith in
+    rw (d3, d2)

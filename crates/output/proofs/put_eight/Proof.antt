@@ -1,7 +1,7 @@
 use native.Mathlib.Omega.{arith}
 use native.Mathlib.Numerals.{add-one, add-two, add-three, add-four, add-five, add-six, add-seven}
 use lib.ListN.{length-set}
-use Rattle.output.proofs.Output.{stored}
+use Rattle.output.proofs.Output.{eight-stored}
 use borrow.Author.Needs.{needs}
 use Rattle.output.proofs.put_eight.Statement.{statement}
 use Rattle.output.proofs.put_eight.Tie as tie
@@ -81,7 +81,7 @@ same-length c = search needs
 returns : tie.Need-returns
 returns c =
     let a = c .args in
-    simp (add-one, add-two, add-three, add-four, add-five, add-six, add-seven) (stored (a .out .now) (a .v) (a .at) (c .pre))
+    simp (add-one, add-two, add-three, add-four, add-five, add-six, add-seven) (eight-stored (a .out .now) (a .v) (a .at) (c .pre))
 
 pub put-eight-spec : {M : Type 1} → statement M
 put-eight-spec =
