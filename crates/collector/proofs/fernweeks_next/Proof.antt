@@ -30,8 +30,8 @@ returns-3 c = search (laws, needs)
 next-requires : tie.Need-next-requires
 next-requires c κs = search needs
 
-enum-known-e : tie.Need-enum-known-e
-enum-known-e c = search needs
+enum-known-after : tie.Need-enum-known-after
+enum-known-after c = search needs
 
 put-cursor-requires : tie.Need-put-cursor-requires
 put-cursor-requires c κs = c .before .before .before .before .before .before .before .before .before .before .before .before .before .before .if1 .left
@@ -39,8 +39,8 @@ put-cursor-requires c κs = c .before .before .before .before .before .before .b
 put-element-requires : tie.Need-put-element-requires
 put-element-requires c κs = search needs
 
-enum-known-after : tie.Need-enum-known-after
-enum-known-after c = search needs
+enum-known-after-2 : tie.Need-enum-known-after-2
+enum-known-after-2 c = search needs
 
 put-cursor-requires-2 : tie.Need-put-cursor-requires-2
 put-cursor-requires-2 c κs = search needs
@@ -74,7 +74,7 @@ returns-4 c =
     let first = room .before .before .before .before .before in
     let a = first .before .args in
     next-element (a .state .now) (a .part .now) (a .asns .now) (a .element .now) (room .before .if1 .left) (room .if2 .left) _ (got .get-state .ensures) _ (σ .s .given .1)
-    _ _ (step .next .ensures) (first .slice-known .given) _ _ (state .put-cursor .ensures) _ _ (y .e .given .1) (c .before .before .put-element .ensures)
+    _ _ (step .next .ensures) (first .slice-known .given) _ _ (state .put-cursor .ensures) _ _ (y .after .given .1) (c .before .before .put-element .ensures)
 
 same-length-5 : tie.Need-same-length-5
 same-length-5 c = search needs
@@ -93,7 +93,7 @@ returns-5 c =
     let first = room .before .before .before .before .before in
     let a = first .before .args in
     next-end (a .state .now) (a .part .now) (a .asns .now) (a .element .now) (room .before .if1 .left) (room .if2 .left) _ (got .get-state .ensures) _ (σ .s .given .1)
-    _ _ (step .next .ensures) (first .slice-known .given) _ _ (state .put-cursor2 .ensures) (y .after .given .1)
+    _ _ (step .next .ensures) (first .slice-known .given) _ _ (state .put-cursor2 .ensures) (y .after2 .given .1)
 
 same-length-7 : tie.Need-same-length-7
 same-length-7 c = search needs
@@ -134,10 +134,10 @@ fernweeks-next-spec =
     same-length
     returns-3
     next-requires
-    enum-known-e
+    enum-known-after
     put-cursor-requires
     put-element-requires
-    enum-known-after
+    enum-known-after-2
     put-cursor-requires-2
     enum-told-2
     enum-told-3
