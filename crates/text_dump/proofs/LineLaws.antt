@@ -24,24 +24,22 @@ use Rattle.text_dump_line.specs.declared.PrefixText.{PrefixText}
 use Rattle.text_dump_line.specs.declared.Line.{Line}
 use Rattle.text_dump_line.specs.declared.Line.the-variants.{Unreadable, Passed, Wrapped, Route}
 use Rattle.plain_reader.specs.Rules.{Remembered as Plain, nothing, invalid, valid, replace}
-use Rattle.plain_reader.specs.Calls.{element, end, refused}
+use Rattle.plain_reader.specs.Calls.{Answer, element, end, refused}
 use Rattle.plain_reader.specs.Elements.{after-line}
 use Rattle.plain_reader.specs.Cursor.{Cursor, to-start}
 use Rattle.plain_reader.specs.Refinement.{Fits-prefix, Fits-line}
 use Rattle.plain_reader.proofs.Fits.{line-keeps}
-use Rattle.text_dump.specs.State.{plain, stored, moved, turned, validRemembered, spoilt}
-use Rattle.text_dump.specs.Rules.{textOf, said, originAsn, elementOf, rules}
-use Rattle.text_dump.specs.Next.{stepped, next, atRoute, outcome, Reaches}
+use Rattle.text_dump.specs.State.{plain, stored, cursor, moved, turned, validRemembered, spoilt}
+use Rattle.text_dump.specs.Rules.{WithAsns, textOf, said, originAsn, elementOf, rules}
+use Rattle.text_dump.specs.Next.{stepped, next, atRoute}
 use Rattle.text_dump.specs.declared.Remembered.{Remembered}
 use Rattle.text_dump.specs.declared.Remembered.the-variants.{Nothing, Invalid, Valid}
 use Rattle.text_dump.specs.declared.State.{State}
-use Rattle.text_dump.specs.declared.Reached.{Reached}
-use Rattle.text_dump.specs.declared.Reached.the-variants.{Route as AtRoute, End as AtEnd, Unreadable as AtUnreadable}
 use Rattle.text_dump.proofs.StateLaws.{stored-plain, plain-stored, first}
 use Rattle.text_dump.proofs.RulesLaws.{lines-fit}
 use Rattle.text_dump.proofs.Demand3.{Fits}
 use Rattle.text_dump.proofs.NextLaws as loop
-use Rattle.text_dump.proofs.NextLaws.{Came, stays}
+use Rattle.text_dump.proofs.NextLaws.{Came, Comes-to, stays}
 
 -- moving and turning touch the cursor alone, and the last word stands
 module _ (σ : State) (c : Cursor NetworkPrefix) where
@@ -146,19 +144,19 @@ module _ (σ : State) (l : List ℕ) (k : ℕ) (one : lines l ≡ l ∷ []) (fin
   whole : take (length l - 0) (drop 0 l) ≡ l
   whole = take-all (length l - 0) l (omega arith)
 
-  reached : (r : Reached) → Reaches (turned σ) l r → next (turned σ) l k ≡ stepped (turned σ) (outcome (turned σ) l k r)
+  by-loop : (z : ℕ → Answer WithAsns × Cursor NetworkPrefix) → Comes-to (turned σ) l z → next (turned σ) l k ≡ stepped (turned σ) (z k)
   unfolding next
-  reached r h = rw fine (ap (stepped (turned σ)) (h .0 k))
+  by-loop z h = rw fine (ap (stepped (turned σ)) (h k))
 
   over : (n : Remembered) → Came (turned σ) l (length l) n → next (turned σ) l k ≡ (end, moved σ (record { at = length l; remembered = plain n }))
-  over n h = reached (AtEnd n) (loop.at-end (turned σ) l (length l) n h (omega arith))
+  over n h = by-loop (λ k. (end, record { at = length l; remembered = plain n })) (loop.at-end (turned σ) l (length l) n h (omega arith))
 
   module _ (y : Line) (c : y ≡ lineOf (σ .columns) l) where
     said-here : y ≡ lineOf (σ .columns) (take (length l - 0) (drop 0 l))
     said-here = c ∙ ap (lineOf (σ .columns)) (sym whole)
 
     pub unreadable-line : y ≡ Unreadable → next (turned σ) l k ≡ (refused 6, turned σ)
-    unreadable-line h = reached AtUnreadable (loop.unreadable (turned σ) l 0 (σ .remembered) begun some (length l) ends y said-here h (omega arith)) ∙ stays (turned σ) 6
+    unreadable-line h = by-loop (λ k. (refused 6, cursor (turned σ))) (loop.unreadable (turned σ) l 0 (σ .remembered) begun some (length l) ends y said-here h (omega arith)) ∙ stays (turned σ) 6
 
     pub passed-line : y ≡ Passed → next (turned σ) l k ≡ (end, moved σ (record { at = length l; remembered = plain (σ .remembered) }))
     passed-line h = over (σ .remembered) (loop.passes (turned σ) l 0 (σ .remembered) begun some (length l) ends y said-here h)
@@ -181,7 +179,7 @@ module _ (σ : State) (l : List ℕ) (k : ℕ) (one : lines l ≡ l ∷ []) (fin
       module _ (p : NetworkPrefix) (g : replace (textOf x) (plain (σ .remembered)) ≡ valid p) where
         at-route : next (turned σ) l k ≡ stepped (turned σ) (atRoute (turned σ) k p (e, asnsOf (pathOf e l)) (length l))
         at-route =
-            reached (AtRoute p e 0 (length l)) (loop.reaches-route (turned σ) l 0 (σ .remembered) begun some (length l) ends y said-here x e h (Valid p) (sym g) p refl (omega arith))
+            by-loop (λ k. atRoute (turned σ) k p (e, asnsOf (pathOf e (take (length l - 0) (drop 0 l)))) (length l)) (loop.reaches-route (turned σ) l 0 (σ .remembered) begun some (length l) ends y said-here x e h (Valid p) (sym g) p refl (omega arith))
             ∙ ap (λ (s : List ℕ). stepped (turned σ) (atRoute (turned σ) k p (e, asnsOf (pathOf e s)) (length l))) whole
 
         pub yielding-route : length (asnsOf (pathOf e l)) ≤ k

@@ -28,33 +28,39 @@ use Rattle.text_dump_line.specs.declared.Line.{Line}
 use Rattle.text_dump_line.specs.declared.Line.the-variants.{Unreadable as UnreadableLine, Passed, Wrapped, Route}
 use Rattle.plain_reader.specs.Rules.{nothing, invalid, valid, replace}
 use Rattle.plain_reader.specs.Calls.{Answer, element, end, refused}
-use Rattle.plain_reader.specs.Cursor.{next-at}
+use Rattle.plain_reader.specs.Cursor.{Cursor, next-at}
 use Rattle.plain_reader.proofs.LineLoop as loop
 use Rattle.plain_reader.proofs.LineLoop.{come}
 use Rattle.text_dump.specs.State.{plain, cursor, moved, spoilt}
-use Rattle.text_dump.specs.Rules.{textOf, said, originAsn, elementOf, rules}
-use Rattle.text_dump.specs.Next.{Step, stepped, next, told, lent, between, Answers, atRoute, outcome, Inside, Reaches}
+use Rattle.text_dump.specs.Rules.{WithAsns, textOf, said, originAsn, elementOf, rules}
+use Rattle.text_dump.specs.Next.{Step, stepped, next, told, lent, Answers, atRoute}
 use Rattle.text_dump.specs.declared.Remembered.{Remembered}
 use Rattle.text_dump.specs.declared.Remembered.the-variants.{Nothing, Invalid, Valid}
 use Rattle.text_dump.specs.declared.State.{State}
 use Rattle.text_dump.specs.declared.Next.{Next}
 use Rattle.text_dump.specs.declared.Next.the-variants.{Element, End, Spoilt, Unreadable, TooFewPlaces}
-use Rattle.text_dump.specs.declared.Reached.{Reached}
-use Rattle.text_dump.specs.declared.Reached.the-variants.{Route as AtRoute, End as AtEnd, Unreadable as AtUnreadable}
 use Rattle.text_dump.proofs.StateLaws.{moved-cursor, cursor-moved, position-inside}
 
 -- the loop over the lines
 module _ (σ : State) (t : List ℕ) where
+  -- the bytes from i up to j
+  abbrev between : ℕ → ℕ → List ℕ
+  between i j = take (j - i) (drop i t)
+
+  -- with k AS places next comes to what stands there, for every k
+  abbrev pub Comes-to : (ℕ → Answer WithAsns × Cursor NetworkPrefix) → Type 0
+  Comes-to z = (k : ℕ) → next-at (rules σ) t k (cursor σ) ≡ z k
+
   -- it has come to the position i with m remembered
   abbrev pub Came : ℕ → Remembered → Type 0
-  Came i m = (k : ℕ) → next-at (rules σ) t k (cursor σ) ≡ come (rules σ) t (cursor σ) k i (plain m)
+  Came i m = Comes-to (λ k. come (rules σ) t (cursor σ) k i (plain m))
 
   pub comes : Came (σ .position) (σ .remembered)
   comes k = loop.begins (rules σ) t (cursor σ) k
 
   module _ (i : ℕ) (m : Remembered) (came : Came i m) where
-    pub at-end : length t ≤ i → Reaches σ t (AtEnd m)
-    at-end h = ((λ k. came k ∙ loop.ends (rules σ) t (cursor σ) k i (plain m) h), tt)
+    pub at-end : length t ≤ i → Comes-to (λ k. (end, record { at = length t; remembered = plain m }))
+    at-end h k = came k ∙ loop.ends (rules σ) t (cursor σ) k i (plain m) h
 
     module _ (inside : i < length t) (e : ℕ) (here : e ≡ lineEnd t i) where
       pub line-order : i ≤ e
@@ -67,36 +73,36 @@ module _ (σ : State) (t : List ℕ) where
       line-less = omega (arith, lineEnd-after t i inside)
 
       module _ (y : Line) (c : y ≡ lineOf (σ .columns) (take (e - i) (drop i t))) where
-        says : rules σ .classify (between σ t i e) ≡ said (between σ t i e) y
-        says = ap (said (between σ t i e)) (sym c)
+        says : rules σ .classify (between i e) ≡ said (between i e) y
+        says = ap (said (between i e)) (sym c)
 
-        pub unreadable : y ≡ UnreadableLine → σ .position ≤ length t → Reaches σ t AtUnreadable
-        unreadable h b = ((λ k. came k ∙ loop.six (rules σ) t (cursor σ) k i e (plain m) inside here (says ∙ ap (said (between σ t i e)) h) b), tt)
+        pub unreadable : y ≡ UnreadableLine → σ .position ≤ length t → Comes-to (λ k. (refused 6, cursor σ))
+        unreadable h b k = came k ∙ loop.six (rules σ) t (cursor σ) k i e (plain m) inside here (says ∙ ap (said (between i e)) h) b
 
         pub passes : y ≡ Passed → Came e m
-        passes h k = came k ∙ loop.passes (rules σ) t (cursor σ) k i e (plain m) inside here (says ∙ ap (said (between σ t i e)) h)
+        passes h k = came k ∙ loop.passes (rules σ) t (cursor σ) k i e (plain m) inside here (says ∙ ap (said (between i e)) h)
 
         pub wraps : (p : NetworkPrefix) → y ≡ Wrapped p → Came e (Valid p)
-        wraps p h k = came k ∙ loop.wraps (rules σ) t (cursor σ) k i e (plain m) inside here p (says ∙ ap (said (between σ t i e)) h)
+        wraps p h k = came k ∙ loop.wraps (rules σ) t (cursor σ) k i e (plain m) inside here p (says ∙ ap (said (between i e)) h)
 
         module _ (x : PrefixText) (r : RouteEntry) (h : y ≡ Route r x) (n : Remembered) (g : plain n ≡ replace (textOf x) (plain m)) where
-          is-route : rules σ .classify (between σ t i e) ≡ said (between σ t i e) (Route r x)
-          is-route = says ∙ ap (said (between σ t i e)) h
+          is-route : rules σ .classify (between i e) ≡ said (between i e) (Route r x)
+          is-route = says ∙ ap (said (between i e)) h
 
           pub passes-route : OneOf (0 ∷ 1 ∷ []) (tagOf the-type n) → Came e n
           passes-route o k = came k ∙ go n o g
             where
               go : (n : Remembered) → OneOf (0 ∷ 1 ∷ []) (tagOf the-type n) → plain n ≡ replace (textOf x) (plain m)
                   → come (rules σ) t (cursor σ) k i (plain m) ≡ come (rules σ) t (cursor σ) k e (plain n)
-              go Nothing o g = loop.under-nothing (rules σ) t (cursor σ) k i e (plain m) inside here (textOf x) (r, asnsOf (pathOf r (between σ t i e))) is-route (sym g)
-              go Invalid o g = loop.under-invalid (rules σ) t (cursor σ) k i e (plain m) inside here (textOf x) (r, asnsOf (pathOf r (between σ t i e))) is-route (sym g)
+              go Nothing o g = loop.under-nothing (rules σ) t (cursor σ) k i e (plain m) inside here (textOf x) (r, asnsOf (pathOf r (between i e))) is-route (sym g)
+              go Invalid o g = loop.under-invalid (rules σ) t (cursor σ) k i e (plain m) inside here (textOf x) (r, asnsOf (pathOf r (between i e))) is-route (sym g)
               go (Valid p) o g = absurd (⊎-elim (λ e. let z : _≡_ {A = ℕ} 2 0 = e in omega arith) (λ e. let z : _≡_ {A = ℕ} 2 1 = e in omega arith) o)
 
-          pub reaches-route : (p : NetworkPrefix) → n ≡ Valid p → σ .position ≤ length t → Reaches σ t (AtRoute p r i e)
-          reaches-route p f b = ((λ k. came k ∙ go k (leb (length asns) k) refl), (line-order, line-inside))
+          pub reaches-route : (p : NetworkPrefix) → n ≡ Valid p → σ .position ≤ length t → Comes-to (λ k. atRoute σ k p (r, asnsOf (pathOf r (between i e))) e)
+          reaches-route p f b k = came k ∙ go k (leb (length asns) k) refl
             where
               asns : List ℕ
-              asns = asnsOf (pathOf r (between σ t i e))
+              asns = asnsOf (pathOf r (between i e))
 
               brings : replace (textOf x) (plain m) ≡ valid p
               brings = sym g ∙ ap plain f
@@ -148,7 +154,7 @@ module _ (σ : State) (p : NetworkPrefix) (e : RouteEntry) (line : List ℕ) (j 
         (ap (λ (v : Elem). told (Element s v) new) same ∙ ap (λ (l : List ℕ). (element (made, l), s)) taken ∙ ap (λ (z : State). (element (made, asnsOf path), z)) es)
         laid
 
--- next's ways out, by what the loop reached
+-- next's ways out, by where the loop has come
 module _ (σ : State) (t old : List ℕ) (b : Bool) (eb : b ≡ spoilt σ (length t)) where
   answers : (z : Step) → next σ t (length old) ≡ z → (r : Next) (new : List ℕ) → Answers z old r new → Answers (next σ t (length old)) old r new
   answers z e r new h = (h .0 ∙ sym e, h .1 ∙ ap (λ (y : Step). lent (y .0) old) (sym e))
@@ -168,30 +174,27 @@ module _ (σ : State) (t old : List ℕ) (b : Bool) (eb : b ≡ spoilt σ (lengt
     unfolding next
     steps = rw (← eb, h)
 
-    module _ (x : Reached) (reaches : Reaches σ t x) where
-      reached : (y : Reached) → x ≡ y → next σ t (length old) ≡ stepped σ (outcome σ t (length old) y)
-      reached y e = steps ∙ ap (stepped σ) (reaches .0 (length old)) ∙ ap (λ y. stepped σ (outcome σ t (length old) y)) e
+    -- where the loop has come to the position i with m remembered, and the lent list is as it was
+    module _ (lies : List ℕ) (kept : lies ≡ old) (inside : σ .position ≤ length t) (i : ℕ) (m : Remembered) (came : Came σ t i m) where
+      by-loop : (z : ℕ → Answer WithAsns × Cursor NetworkPrefix) → Comes-to σ t z → next σ t (length old) ≡ stepped σ (z (length old))
+      by-loop z e = steps ∙ ap (stepped σ) (e (length old))
 
-      pub refuses-6 : x ≡ AtUnreadable → Answers (next σ t (length old)) old (Unreadable σ) old
-      refuses-6 e = answers (refused 6, σ) (reached AtUnreadable e ∙ stays σ 6) (Unreadable σ) old (refl, refl)
+      pub says-end : length t ≤ i → (s : State) → s ≡ moved σ (record { at = length t; remembered = plain m }) → Answers (next σ t (length old)) old (End s) lies
+      says-end l s f =
+          answers (end, moved σ (record { at = length t; remembered = plain m })) (by-loop (λ k. (end, record { at = length t; remembered = plain m })) (at-end σ t i m came l)) (End s) lies
+          (ap (λ (y : State). (end, y)) f, kept)
 
-      pub says-end : (m : Remembered) → x ≡ AtEnd m → (s : State) → s ≡ moved σ (record { at = length t; remembered = plain m }) → Answers (next σ t (length old)) old (End s) old
-      says-end m e s f =
-          answers (end, moved σ (record { at = length t; remembered = plain m })) (reached (AtEnd m) e) (End s) old (ap (λ (y : State). (end, y)) f, refl)
+      module _ (l : i < length t) (e : ℕ) (here : e ≡ lineEnd t i) (y : Line) (c : y ≡ lineOf (σ .columns) (take (e - i) (drop i t))) where
+        pub refuses-6 : y ≡ UnreadableLine → Answers (next σ t (length old)) old (Unreadable σ) lies
+        refuses-6 f = answers (refused 6, σ) (by-loop (λ k. (refused 6, cursor σ)) (unreadable σ t i m came l e here y c f inside) ∙ stays σ 6) (Unreadable σ) lies (refl, kept)
 
-      module _ (p : NetworkPrefix) (e : RouteEntry) (i j : ℕ) (f : x ≡ AtRoute p e i j) where
-        within : (i ≤ j) × (j ≤ length t)
-        within = subst (Inside σ t) f (reaches .1)
-
-        pub route-order : i ≤ j
-        route-order = within .0
-
-        pub route-inside : j ≤ length t
-        route-inside = within .1
-
-        pub at-route : (r : Next) (new : List ℕ) → Answers (stepped σ (atRoute σ (length old) p (e, asnsOf (pathOf e (take (j - i) (drop i t)))) j)) old r new
-            → Answers (next σ t (length old)) old r new
-        at-route r new h = answers (stepped σ (atRoute σ (length old) p (e, asnsOf (pathOf e (between σ t i j))) j)) (reached (AtRoute p e i j) f) r new h
+        pub at-route : (x : PrefixText) (r : RouteEntry) → y ≡ Route r x → (n : Remembered) → plain n ≡ replace (textOf x) (plain m) → (p : NetworkPrefix) → n ≡ Valid p
+            → (a : Next) (new : List ℕ) → Answers (stepped σ (atRoute σ (length lies) p (r, asnsOf (pathOf r (take (e - i) (drop i t)))) e)) lies a new
+            → Answers (next σ t (length old)) old a new
+        at-route x r f n g p q a new w =
+            answers (stepped σ (atRoute σ (length old) p (r, asnsOf (pathOf r (take (e - i) (drop i t)))) e))
+            (by-loop (λ k. atRoute σ k p (r, asnsOf (pathOf r (take (e - i) (drop i t)))) e) (reaches-route σ t i m came l e here y c x r f n g p q inside)) a new
+            (subst (λ (l : List ℕ). Answers (stepped σ (atRoute σ (length l) p (r, asnsOf (pathOf r (take (e - i) (drop i t)))) e)) l a new) kept w)
 
 -- next goes on with the same reading, also where it refuses
 pub next-moved : (σ : State) (t : List ℕ) (k : ℕ) → moved σ (cursor (next σ t k .1)) ≡ next σ t k .1

@@ -1,23 +1,19 @@
 -- Next (01, Reader and Where a call says no).
-use Prim.Native.Nat.{ℕ, _-_, _≤_}
+use Prim.Native.Nat.{ℕ}
 use mathlib.Core.Path.{_≡_}
 use mathlib.Core.Bool.{cond}
 use mathlib.Core.List.{List, _++_}
 use lib.ListN.{length, take, drop}
 use lib.Dec.{leb}
 use Rattle.network.specs.declared.NetworkPrefix.{NetworkPrefix}
-use Rattle.path_text.specs.Path.{asnsOf}
-use Rattle.text_dump_line.specs.Line.{pathOf}
 use Rattle.plain_reader.specs.Rules.{valid}
 use Rattle.plain_reader.specs.Calls.{Answer, element, end, refused}
 use Rattle.plain_reader.specs.Cursor.{Cursor, next-at}
-use Rattle.text_dump.specs.State.{plain, cursor, moved, spoilt}
+use Rattle.text_dump.specs.State.{cursor, moved, spoilt}
 use Rattle.text_dump.specs.Rules.{Route, WithAsns, rules}
 use Rattle.text_dump.specs.declared.State.{State}
 use Rattle.text_dump.specs.declared.Next.{Next}
 use Rattle.text_dump.specs.declared.Next.the-variants.{Element, End, Spoilt, Unreadable, TooFewPlaces}
-use Rattle.text_dump.specs.declared.Reached.{Reached}
-use Rattle.text_dump.specs.declared.Reached.the-variants.{Route as AtRoute, End as AtEnd, Unreadable as AtUnreadable}
 
 -- an answer with the state that it leaves
 abbrev pub Step : Type 0
@@ -48,28 +44,6 @@ lent (refused n) old = old
 abbrev pub Answers : Step → List ℕ → Next → List ℕ → Type 0
 Answers z old r new = (told r new ≡ z) × (new ≡ lent (z .0) old)
 
--- for the loop over the lines and the call behind it: what the lines came to, before the AS places are looked at
-module _ (σ : State) where
-  -- a route under the valid prefix p, on a line that ends at j
-  abbrev pub atRoute : ℕ → NetworkPrefix → Route → ℕ → Answer WithAsns × Cursor NetworkPrefix
-  atRoute k p r j = cond (leb (length (r .1)) k) (element (rules σ .yield p r), record { at = j; remembered = valid p }) (refused 7, cursor σ)
-
-  module _ (t : List ℕ) where
-    -- the bytes from i up to j
-    abbrev pub between : ℕ → ℕ → List ℕ
-    between i j = take (j - i) (drop i t)
-
-    abbrev pub outcome : ℕ → Reached → Answer WithAsns × Cursor NetworkPrefix
-    outcome k (AtRoute p e i j) = atRoute k p (e, asnsOf (pathOf e (between i j))) j
-    outcome k (AtEnd m) = (end, record { at = length t; remembered = plain m })
-    outcome k AtUnreadable = (refused 6, cursor σ)
-
-    -- the line lies in the part
-    abbrev pub Inside : Reached → Type 0
-    Inside (AtRoute p e i j) = (i ≤ j) × (j ≤ length t)
-    Inside (AtEnd m) = Unit {0}
-    Inside AtUnreadable = Unit {0}
-
-    -- with any number of AS places, next's answer is that of what was reached
-    abbrev pub Reaches : Reached → Type 0
-    Reaches r = ((k : ℕ) → next-at (rules σ) t k (cursor σ) ≡ outcome k r) × Inside r
+-- what a route under the valid prefix p comes to, on a line that ends at j, with k AS places
+abbrev pub atRoute : State → ℕ → NetworkPrefix → Route → ℕ → Answer WithAsns × Cursor NetworkPrefix
+atRoute σ k p r j = cond (leb (length (r .1)) k) (element (rules σ .yield p r), record { at = j; remembered = valid p }) (refused 7, cursor σ)

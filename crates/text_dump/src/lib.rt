@@ -1,6 +1,5 @@
 // The reader of a table in parts: opening, next and turn, by a state that each call takes and hands back.
 ghost use mathlib.Core.Path.{_≡_};
-ghost use Prim.Native.Nat.{_≤_};
 ghost use lib.ListN.{length, take};
 ghost use Rattle.plain_reader.specs.Rules.{replace};
 ghost use Rattle.text_dump.specs.State.{plain, stored, validRemembered, spoilt, turned, moved};
@@ -8,7 +7,7 @@ ghost use Rattle.text_dump.specs.Open.{peerIp, peerAsn, openOf, told as 
 ghost use Rattle.text_dump.specs.Rules.{textOf, originAsn, elementOf};
 ghost use Rattle.path_text.specs.Path.{asnsOf};
 ghost use Rattle.text_dump_line.specs.Line.{pathOf};
-ghost use Rattle.text_dump.specs.Next.{stepped, next as nextOf, atRoute, Answers, Reaches};
+ghost use Rattle.text_dump.specs.Next.{stepped, next as nextOf, atRoute, Answers};
 use columns::Columns;
 use columns::ColumnsRead;
 use decimal::U32Read;
@@ -55,13 +54,6 @@ pub enum Next {
     Spoilt(State),
     Unreadable(State),
     TooFewPlaces(State),
-}
-
-// What the lines of a part come to: a route under a valid prefix, with where its line starts and ends; the part's end; or an unreadable line.
-enum Reached {
-    Route(NetworkPrefix, RouteEntry, usize, usize),
-    End(Remembered),
-    Unreadable,
 }
 
 fn peer_ip(id: AddressRead) -> IpAddr
@@ -210,37 +202,6 @@ impl State {
         }
     }
 
-    // Passes lines until one yields.
-    fn reach(self, part: &[u8]) -> Reached
-        requires { ⌜ self .position ≤ length (now part) ⌝ }
-        ensures { λ r. ⌜ Reaches self (now (part .entry)) r ⌝ }
-    {
-        let mut remembered = self.remembered;
-        let mut at = self.position;
-        while at < part.len() {
-            let columns = self.columns;
-            let start = at;
-            at = scan::line_end(part, start);
-            let line = text_dump_line::line_of(&part[start..at], columns);
-            match line {
-                Line::Unreadable => {
-                    return Reached::Unreadable;
-                }
-                Line::Passed => {}
-                Line::Wrapped(prefix) => {
-                    remembered = Remembered::Valid(prefix);
-                }
-                Line::Route(entry, text) => {
-                    remembered = replaced(text, remembered);
-                    if let Remembered::Valid(prefix) = remembered {
-                        return Reached::Route(prefix, entry, start, at);
-                    }
-                }
-            }
-        }
-        Reached::End(remembered)
-    }
-
     // The element of a route that a line has, whose end this is, if its AS numbers have places.
     fn yielded(
         self,
@@ -261,25 +222,38 @@ impl State {
         Next::Element(self.moved(end, Remembered::Valid(prefix)), element)
     }
 
-    // An element's AS numbers stand in the lent list from place 0 on.
+    // Passes lines until one yields. An element's AS numbers stand in the lent list from place 0 on. The loop is not a function of its own: what it
+    // comes to would cross through an enum whose variants do not lie alike.
     pub fn next(self, part: &[u8], asns: &mut [u32]) -> Next
         ensures { λ r. ⌜ Answers (nextOf self (now (part .entry)) (length (now (asns .entry)))) (now (asns .entry)) r (now (asns .exit)) ⌝ }
     {
         if self.is_spoilt(part.len()) {
             return Next::Spoilt(self);
         }
-        let reached = self.reach(part);
-        match reached {
-            Reached::Unreadable => Next::Unreadable(self),
-            Reached::End(remembered) => Next::End(self.moved(part.len(), remembered)),
-            Reached::Route(prefix, entry, start, end) => self.yielded(
-                prefix,
-                entry,
-                &part[start..end],
-                end,
-                asns,
-            ),
+        let mut remembered = self.remembered;
+        let mut at = self.position;
+        while at < part.len() {
+            let columns = self.columns;
+            let start = at;
+            at = scan::line_end(part, start);
+            let line = text_dump_line::line_of(&part[start..at], columns);
+            match line {
+                Line::Unreadable => {
+                    return Next::Unreadable(self);
+                }
+                Line::Passed => {}
+                Line::Wrapped(prefix) => {
+                    remembered = Remembered::Valid(prefix);
+                }
+                Line::Route(entry, text) => {
+                    remembered = replaced(text, remembered);
+                    if let Remembered::Valid(prefix) = remembered {
+                        return self.yielded(prefix, entry, &part[start..at], at, asns);
+                    }
+                }
+            }
         }
+        Next::End(self.moved(part.len(), remembered))
     }
 
     // To the next part.

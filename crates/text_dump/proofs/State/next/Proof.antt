@@ -1,71 +1,156 @@
+use mathlib.Core.Path.{_≡_, refl, ap}
+use Prim.Native.Nat.{_-_, _≤_}
+use lib.ListN.{length}
 use borrow.Author.Needs.{needs}
-use Rattle.text_dump.proofs.NextLaws.{refuses-5, in-part, refuses-6, says-end, route-order, route-inside, at-route}
+use Rattle.text_dump.proofs.NextLaws.{Came, comes, line-order, line-inside, line-less, passes, wraps, passes-route, refuses-5, in-part, refuses-6, says-end, at-route}
 use Rattle.text_dump.proofs.State.next.Statement.{statement}
 use Rattle.text_dump.proofs.State.next.Tie as tie
+use Rattle.text_dump.proofs.State.next.Reads as reads
+use Rattle.text_dump.proofs.State.next.Lts as lts
+use Rattle.scan.proofs.line_end.Reads as line-end-reads
+use Rattle.text_dump.proofs.State.is_spoilt.Reads as is-spoilt-reads
+use Rattle.text_dump.proofs.State.moved.Reads as moved-reads
+use Rattle.text_dump.proofs.State.yielded.Reads as yielded-reads
+use Rattle.text_dump.proofs.replaced.Reads as replaced-reads
+use Rattle.text_dump_line.proofs.line_of.Reads as line-of-reads
 
-ruleset laws = (refuses-5, in-part, refuses-6, says-end, route-order, route-inside, at-route)
+ruleset laws = (refl, comes, line-order, line-inside, line-less, passes, wraps, passes-route, refuses-5, in-part, refuses-6, says-end, at-route)
 
-is-spoilt-requires : tie.Need-is-spoilt-requires
-is-spoilt-requires c κs = search needs
+abbrev Inv-loop : tie.InvT-loop
+Inv-loop self part asns₀ remembered₀ at₀ asns remembered at = (asns ≡ asns₀) × (self .position ≤ length part) × (at ≤ length part) × Came self part at remembered
 
-returns : tie.Need-returns
+abbrev μ-loop : tie.MeasureT-loop
+μ-loop self part asns₀ remembered₀ at₀ asns remembered at = length part - at
+
+is-spoilt-requires : tie.Need-is-spoilt-requires Inv-loop μ-loop
+is-spoilt-requires c κs = search (laws, needs)
+
+returns : tie.Need-returns Inv-loop μ-loop
 returns c = search (laws, needs)
 
-reach-requires : tie.Need-reach-requires
-reach-requires c κs = search (laws, needs)
+loop-holds : tie.Need-loop-holds Inv-loop μ-loop
+loop-holds c = search (laws, needs)
 
-enum-told : tie.Need-enum-told
-enum-told c = search needs
+line-end-requires : tie.Need-line-end-requires Inv-loop μ-loop
+line-end-requires c κs = search (laws, needs)
 
-enum-known-reached : tie.Need-enum-known-reached
-enum-known-reached c = search needs
+sub-line-of : tie.Need-sub-line-of Inv-loop μ-loop
+sub-line-of c = search (laws, needs)
 
-moved-requires : tie.Need-moved-requires
-moved-requires c κs = search needs
+part-line-of-start : tie.Need-part-line-of-start Inv-loop μ-loop
+part-line-of-start c = search (laws, needs)
 
-enum-known-reached-2 : tie.Need-enum-known-reached-2
-enum-known-reached-2 c = search needs
+part-line-of-end : tie.Need-part-line-of-end Inv-loop μ-loop
+part-line-of-end c = search (laws, needs)
 
-sub-yielded : tie.Need-sub-yielded
-sub-yielded c = search (laws, needs)
+line-of-requires : tie.Need-line-of-requires Inv-loop μ-loop
+line-of-requires c κs = search (laws, needs)
 
-part-yielded-start : tie.Need-part-yielded-start
-part-yielded-start c = search (laws, needs)
+enum-told : tie.Need-enum-told Inv-loop μ-loop
+enum-told c = search (laws, needs)
 
-part-yielded-end : tie.Need-part-yielded-end
-part-yielded-end c = search (laws, needs)
+same-length : tie.Need-same-length Inv-loop μ-loop
+same-length c = search (laws, needs)
 
-yielded-requires : tie.Need-yielded-requires
-yielded-requires c κs = search needs
-
-returns-2 : tie.Need-returns-2
+returns-2 : tie.Need-returns-2 Inv-loop μ-loop
 returns-2 c = search (laws, needs)
 
-returns-3 : tie.Need-returns-3
+enum-told-2 : tie.Need-enum-told-2 Inv-loop μ-loop
+enum-told-2 c = search (laws, needs)
+
+loop-less : tie.Need-loop-less Inv-loop μ-loop
+loop-less c = search (laws, needs)
+
+loop-again : tie.Need-loop-again Inv-loop μ-loop
+loop-again c = search (laws, needs)
+
+enum-known-line : tie.Need-enum-known-line Inv-loop μ-loop
+enum-known-line c = search (laws, needs)
+
+loop-less-2 : tie.Need-loop-less-2 Inv-loop μ-loop
+loop-less-2 c = search (laws, needs)
+
+loop-again-2 : tie.Need-loop-again-2 Inv-loop μ-loop
+loop-again-2 c = search (laws, needs)
+
+enum-known-line-2 : tie.Need-enum-known-line-2 Inv-loop μ-loop
+enum-known-line-2 c = search (laws, needs)
+
+replaced-requires : tie.Need-replaced-requires Inv-loop μ-loop
+replaced-requires c κs = search (laws, needs)
+
+enum-known-remembered : tie.Need-enum-known-remembered Inv-loop μ-loop
+enum-known-remembered c = search (laws, needs)
+
+sub-yielded : tie.Need-sub-yielded Inv-loop μ-loop
+sub-yielded c = search (laws, needs)
+
+part-yielded-start : tie.Need-part-yielded-start Inv-loop μ-loop
+part-yielded-start c = search (laws, needs)
+
+part-yielded-end : tie.Need-part-yielded-end Inv-loop μ-loop
+part-yielded-end c = search (laws, needs)
+
+yielded-requires : tie.Need-yielded-requires Inv-loop μ-loop
+yielded-requires c κs = search (laws, needs)
+
+same-length-2 : tie.Need-same-length-2 Inv-loop μ-loop
+same-length-2 c =
+    let kept = ap length (c .before .before .before .before .before .before .before .before .before .before .before .before .before .before .before .before .before .loop .inv .0) in
+    search (kept, needs)
+
+returns-3 : tie.Need-returns-3 Inv-loop μ-loop
 returns-3 c = search (laws, needs)
 
-same-length : tie.Need-same-length
-same-length c = search needs
+loop-less-3 : tie.Need-loop-less-3 Inv-loop μ-loop
+loop-less-3 c = search (laws, needs)
 
-returns-4 : tie.Need-returns-4
+loop-again-3 : tie.Need-loop-again-3 Inv-loop μ-loop
+loop-again-3 c = search (laws, needs)
+
+moved-requires : tie.Need-moved-requires Inv-loop μ-loop
+moved-requires c κs = search (laws, needs)
+
+same-length-3 : tie.Need-same-length-3 Inv-loop μ-loop
+same-length-3 c = search (laws, needs)
+
+returns-4 : tie.Need-returns-4 Inv-loop μ-loop
 returns-4 c = search (laws, needs)
 
 pub next-spec : {M : Type 1} → statement M
 next-spec =
     tie.close
     (tie.spec
+    Inv-loop
+    μ-loop
     is-spoilt-requires
     returns
-    reach-requires
+    loop-holds
+    line-end-requires
+    sub-line-of
+    part-line-of-start
+    part-line-of-end
+    line-of-requires
     enum-told
-    enum-known-reached
-    moved-requires
-    enum-known-reached-2
+    same-length
+    returns-2
+    enum-told-2
+    loop-less
+    loop-again
+    enum-known-line
+    loop-less-2
+    loop-again-2
+    enum-known-line-2
+    replaced-requires
+    enum-known-remembered
     sub-yielded
     part-yielded-start
     part-yielded-end
     yielded-requires
-    returns-2
+    same-length-2
     returns-3
-    same-length
+    loop-less-3
+    loop-again-3
+    moved-requires
+    same-length-3
     returns-4)
