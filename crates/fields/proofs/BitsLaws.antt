@@ -1,5 +1,5 @@
 -- Laws of the length behind an address.
-use Prim.Native.Nat.{ℕ, _+_, _-_, _*_, _≤_}
+use Prim.Native.Nat.{ℕ, _+_, _-_, _*_, _%_, _≤_}
 use mathlib.Core.Path.{_≡_}
 use mathlib.Core.Bool.{true}
 use mathlib.Core.List.{List, [], _∷_}
@@ -10,7 +10,7 @@ use borrow.Author.Tests.{lt-ltb}
 use Rattle.decimal.specs.Decimal.{isDigit, behind, digits}
 use Rattle.decimal.proofs.Laws.{digit-high}
 use Rattle.network.specs.Prefix.{lengthOf}
-use Rattle.fields.specs.Fronts.{digitOr10, Bits-at, Told-bits}
+use Rattle.fields.specs.Fronts.{Bits-at, Told-bits}
 use Rattle.fields.specs.declared.BitsRead.the-variants.{Bits, Nothing}
 use Rattle.fields.proofs.OctetLaws.{digit-known, slice-one, slice-two}
 
@@ -33,7 +33,7 @@ bits-none s at = record { bits-told = λ n f q. let z : _≡_ {A = ℕ} 0 1 = cc
 told : (s : List ℕ) (at n f : ℕ) → Bits-at s at f n → Told-bits s at (Bits n f)
 told s at n f o = record { bits-told = λ m g q. let y : n ≡ m = cc in let x : f ≡ g = cc in rw (← y, ← x) o }
 
-module _ (s : List ℕ) (at : ℕ) (h : 3 ≤ length s - at) (e : getD s at 0 ≡ 47) (a : ℕ) (ea : a ≡ digitOr10 (getD s (at + 1) 0)) (la : a ≤ 9) where
+module _ (s : List ℕ) (at : ℕ) (h : 3 ≤ length s - at) (e : getD s at 0 ≡ 47) (a : ℕ) (ea : (a + 48) % 256 ≡ getD s (at + 1) 0) (la : a ≤ 9) where
   da : (isDigit (getD s (at + 1) 0) ≡ true) × (a ≡ getD s (at + 1) 0 - 48)
   da = digit-known (getD s (at + 1) 0) a ea la
 
@@ -47,7 +47,7 @@ module _ (s : List ℕ) (at : ℕ) (h : 3 ≤ length s - at) (e : getD s at 0 �
         value = rw (z, slice-one s (at + 1) (omega arith), da .1) (length-one (getD s (at + 1) 0) (da .0));
       })
 
-  pub bits-two : (b : ℕ) → b ≡ digitOr10 (getD s (at + 2) 0) → b ≤ 9 → a * 10 + b ≤ 32 → Told-bits s at (Bits (a * 10 + b) (at + 3))
+  pub bits-two : (b : ℕ) → (b + 48) % 256 ≡ getD s (at + 2) 0 → b ≤ 9 → a * 10 + b ≤ 32 → Told-bits s at (Bits (a * 10 + b) (at + 3))
   bits-two b eb lb l =
       let db : (isDigit (getD s (at + 2) 0) ≡ true) × (b ≡ getD s (at + 2) 0 - 48) = digit-known (getD s (at + 2) 0) b eb lb in
       let k : at + 3 - 1 ≡ at + 2 = omega arith in

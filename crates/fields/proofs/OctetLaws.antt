@@ -1,5 +1,5 @@
 -- Laws of an octet and of four of them at the front of a text.
-use Prim.Native.Nat.{ℕ, suc, _+_, _-_, _*_, _≤_, _<_}
+use Prim.Native.Nat.{ℕ, suc, _+_, _-_, _*_, _%_, _≤_, _<_}
 use mathlib.Core.Path.{_≡_, refl, ap, _∙_}
 use mathlib.Core.Bool.{Bool, true, false, cond}
 use mathlib.Core.List.{List, [], _∷_}
@@ -12,30 +12,12 @@ use borrow.Author.Tests.{le-leb, lt-leb, lt-ltb, ne-eqb}
 use Rattle.decimal.specs.Decimal.{isDigit, behind, digits}
 use Rattle.decimal.proofs.Laws.{digit-high}
 use Rattle.ipv4.specs.Ipv4.{octet}
-use Rattle.fields.specs.Fronts.{digitOr10, Octet-at, Told-octet}
+use Rattle.fields.specs.Fronts.{Octet-at, Told-octet}
 use Rattle.fields.specs.declared.OctetRead.the-variants.{Octet, Nothing as NoOctet}
 
--- a byte's digit
-module _ (b : ℕ) where
-  pub digit-below : b < 48 → 10 ≡ digitOr10 b
-  unfolding digitOr10
-  digit-below h = simp (lt-leb 48 b h)
-
-  pub digit-above : 48 ≤ b → 57 < b → 10 ≡ digitOr10 b
-  unfolding digitOr10
-  digit-above h l = simp (le-leb 48 b h, lt-leb b 57 l)
-
-  pub digit-there : 48 ≤ b → b ≤ 57 → b - 48 ≡ digitOr10 b
-  unfolding digitOr10
-  digit-there h l = simp (le-leb 48 b h, le-leb b 57 l)
-
-  pub digit-known : (d : ℕ) → d ≡ digitOr10 b → d ≤ 9 → (isDigit b ≡ true) × (d ≡ b - 48)
-  unfolding digitOr10
-  digit-known d e h = go (isDigit b) e
-    where
-      go : (t : Bool) → d ≡ cond t (b - 48) 10 → (t ≡ true) × (d ≡ b - 48)
-      go true f = (refl, f)
-      go false f = absurd (omega arith)
+-- what is 0 to 9 behind 48 is a digit
+pub digit-known : (b d : ℕ) → (d + 48) % 256 ≡ b → d ≤ 9 → (isDigit b ≡ true) × (d ≡ b - 48)
+digit-known b d e h = (simp (le-leb 48 b (omega arith), le-leb b 57 (omega arith)), omega arith)
 
 -- the first bytes from a place on
 module _ (s : List ℕ) where
@@ -83,7 +65,7 @@ octet-none s at = record { octet-told = λ v e q. let z : _≡_ {A = ℕ} 0 1 = 
 told : (s : List ℕ) (at v e : ℕ) → Octet-at s at e v → Told-octet s at (Octet v e)
 told s at v e o = record { octet-told = λ w f q. let y : v ≡ w = cc in let x : e ≡ f = cc in rw (← y, ← x) o }
 
-module _ (s : List ℕ) (at : ℕ) (h : at + 3 ≤ length s) (a : ℕ) (ea : a ≡ digitOr10 (getD s at 0)) (la : a ≤ 9) where
+module _ (s : List ℕ) (at : ℕ) (h : at + 3 ≤ length s) (a : ℕ) (ea : (a + 48) % 256 ≡ getD s at 0) (la : a ≤ 9) where
   da : (isDigit (getD s at 0) ≡ true) × (a ≡ getD s at 0 - 48)
   da = digit-known (getD s at 0) a ea la
 
@@ -96,7 +78,7 @@ module _ (s : List ℕ) (at : ℕ) (h : at + 3 ≤ length s) (a : ℕ) (ea : a �
         value = rw (slice-one s at (omega arith), da .1) (value-one (getD s at 0) (da .0));
       })
 
-  module _ (b : ℕ) (eb : b ≡ digitOr10 (getD s (at + 1) 0)) (lb : b ≤ 9) (n : a ≡ 0 → ⊥) where
+  module _ (b : ℕ) (eb : (b + 48) % 256 ≡ getD s (at + 1) 0) (lb : b ≤ 9) (n : a ≡ 0 → ⊥) where
     db : (isDigit (getD s (at + 1) 0) ≡ true) × (b ≡ getD s (at + 1) 0 - 48)
     db = digit-known (getD s (at + 1) 0) b eb lb
 
@@ -109,7 +91,7 @@ module _ (s : List ℕ) (at : ℕ) (h : at + 3 ≤ length s) (a : ℕ) (ea : a �
           value = rw (slice-two s at (omega arith), da .1, db .1) (value-two (getD s at 0) (getD s (at + 1) 0) (da .0) (db .0) (λ z. n (da .1 ∙ z)));
         })
 
-    module _ (c : ℕ) (ec : c ≡ digitOr10 (getD s (at + 2) 0)) (lc : c ≤ 9) where
+    module _ (c : ℕ) (ec : (c + 48) % 256 ≡ getD s (at + 2) 0) (lc : c ≤ 9) where
       dc : (isDigit (getD s (at + 2) 0) ≡ true) × (c ≡ getD s (at + 2) 0 - 48)
       dc = digit-known (getD s (at + 2) 0) c ec lc
 

@@ -21,10 +21,6 @@ use Rattle.fields.specs.declared.BitsRead.the-variants.{Bits}
 abbrev pub isBlank : ℕ → Bool
 isBlank b = eqb b 32
 
--- a byte's digit; 10 where it is none
-unfoldable pub digitOr10 : ℕ → ℕ
-digitOr10 b = cond (isDigit b) (b - 48) 10
-
 -- the bytes of s from a up to e are there, and the first and the last of them are digits
 pub record Digits-around (s : List ℕ) (a e : ℕ) : Type 0 where
   pub some-byte : a < e

@@ -1,7 +1,7 @@
 // What stands in a column, with spaces around it: mostly an IPv4 address, a prefix, a number, or nothing. These are read where they stand, with no trimming
 // first; anything else is trimmed and read as any text is.
 ghost use mathlib.Core.Path.{_≡_};
-ghost use Prim.Native.Nat.{_+_, _≤_};
+ghost use Prim.Native.Nat.{_+_, _%_, _≤_};
 ghost use lib.ListN.{length, take, drop};
 ghost use lib.Dec.{eqb};
 ghost use Rattle.utf8.specs.Utf8.{all};
@@ -9,7 +9,7 @@ ghost use Rattle.text.specs.White.{trim as trimOf};
 ghost use Rattle.decimal.specs.Decimal.{readU32};
 ghost use Rattle.network.specs.Address.{readAddress};
 ghost use Rattle.network.specs.Prefix.{readPrefix};
-ghost use Rattle.fields.specs.Fronts.{isBlank, digitOr10, Told-octet, Told-address, Told-bits};
+ghost use Rattle.fields.specs.Fronts.{isBlank, Told-octet, Told-address, Told-bits};
 use decimal::DigitsRead;
 use decimal::U32Read;
 use network::AddressRead;
@@ -78,17 +78,11 @@ fn all_spaces(s: &[u8], at: usize) -> bool
     spaces_bytewise(s, i)
 }
 
-// A byte's digit; 10 where it is none.
+// A byte less 48, modulo 256: a digit is 0 to 9, any other byte is more.
 fn digit(b: u8) -> u32
-    ensures { λ r. ⌜ r ≡ digitOr10 b ⌝ }
+    ensures { λ r. ⌜ ((r + 48) % 256 ≡ b) × (r ≤ 255) ⌝ }
 {
-    if b < b'0' {
-        return 10;
-    }
-    if b'9' < b {
-        return 10;
-    }
-    b as u32 - 48
+    std::num::wrapping_sub_u8(b, 48) as u32
 }
 
 // One to three digits, at most 255, no leading zero. What stands behind them is the caller's.

@@ -1,7 +1,7 @@
 -- Laws of the columns of a line, and of what it says by them.
 use Prim.Native.Nat.{ℕ, zero, suc, _+_, _-_, _≤_, _<_}
 use mathlib.Core.Path.{_≡_, refl, sym, ap, _∙_}
-use mathlib.Core.Bool.{Bool, true, false, cond, not, _&&_}
+use mathlib.Core.Bool.{Bool, true, false, cond, not, _&&_, false≢true}
 use mathlib.Core.List.{List, [], _∷_, _++_, flatten}
 use native.Mathlib.Omega.{arith}
 use lib.ListN.{length, getD, take, drop, length-drop, drop-of-length-le}
@@ -87,19 +87,13 @@ rising-order c e =
     let z = both (ltb (c .«next_hop») (c .metric)) (ltb (c .metric) (c .«local_pref»)) (y .0) in
     (ltb-true (c .«next_hop») (c .metric) (z .0), ltb-true (c .metric) (c .«local_pref») (z .1), ltb-true (c .«local_pref») (c .weight) (y .1), ltb-true (c .weight) (c .path) (x .1))
 
+pub no-whole : (t : List ℕ) (c : Columns) → false ≡ true → Whole c t
+no-whole t c e = absurd (false≢true e)
+
 pub ascii-whole : (t : List ℕ) (c : Columns) (z r : Bool) → (z ≡ true → all isOne t ≡ true) → r ≡ areRising c
-    → (z && leb 3 (c .«next_hop») && r && leb (c .path) (length t)) ≡ true → Whole c t
-ascii-whole t c z r h q f = go (leb-true 3 (c .«next_hop») (f₃ .1)) (rising-order c (sym q ∙ f₂ .1)) (leb-true (c .path) (length t) (f₁ .1)) (h (f₃ .0))
+    → not z ≡ false → 3 ≤ c .«next_hop» → c .path ≤ length t → r ≡ true → Whole c t
+ascii-whole t c z r h q n first last f = go first (rising-order c (sym q ∙ f)) last (h (not-false z n))
   where
-    f₁ : (z && leb 3 (c .«next_hop») && r ≡ true) × (leb (c .path) (length t) ≡ true)
-    f₁ = both (z && leb 3 (c .«next_hop») && r) (leb (c .path) (length t)) f
-
-    f₂ : (z && leb 3 (c .«next_hop») ≡ true) × (r ≡ true)
-    f₂ = both (z && leb 3 (c .«next_hop»)) r (f₁ .0)
-
-    f₃ : (z ≡ true) × (leb 3 (c .«next_hop») ≡ true)
-    f₃ = both z (leb 3 (c .«next_hop»)) (f₂ .0)
-
     go : 3 ≤ c .«next_hop» → (c .«next_hop» < c .metric) × (c .metric < c .«local_pref») × (c .«local_pref» < c .weight) × (c .weight < c .path)
         → c .path ≤ length t → all isOne t ≡ true → Whole c t
     go first rise last h = record {

@@ -51,7 +51,16 @@ fn is_whole(ascii: bool, t: &[u8], c: Columns) -> bool
     requires { ⌜ (ascii ≡ true → all isOne (now t) ≡ true) ⌝ }
     ensures { λ r. ⌜ (r ≡ true → Whole c (now (t .entry))) ⌝ }
 {
-    ascii & (3 <= c.next_hop) & columns::are_rising(c) & (c.path <= t.len())
+    if !ascii {
+        return false;
+    }
+    if c.next_hop < 3 {
+        return false;
+    }
+    if t.len() < c.path {
+        return false;
+    }
+    columns::are_rising(c)
 }
 
 // The bytes from a up to b; none where there is no such slice. Of a whole line nothing is tested.
