@@ -30,8 +30,8 @@ enum-told-2 c = search needs
 enum-known-p : tie.Need-enum-known-p Inv-loop μ-loop
 enum-known-p c = search needs
 
-enum-known-text : tie.Need-enum-known-text Inv-loop μ-loop
-enum-known-text c = search needs
+enum-known-entry : tie.Need-enum-known-entry Inv-loop μ-loop
+enum-known-entry c = search needs
 
 set-by-requires : tie.Need-set-by-requires Inv-loop μ-loop
 set-by-requires c κs = search needs
@@ -67,7 +67,7 @@ reach-spec =
     returns
     enum-told-2
     enum-known-p
-    enum-known-text
+    enum-known-entry
     set-by-requires
     enum-known-prefix
     returns-2
