@@ -61,11 +61,11 @@ module _ (w : List ℕ) where
   withPeer (some a) = cond (leb (getD w 8 0) 4294967295) (withRemembered a (ofBits binary64 (getD w 9 0)) (rememberedOf (getD w 10 0) (getD w 11 0) (getD w 12 0) (getD w 13 0) (getD w 14 0))) none
   withPeer none = none
 
-  -- with any bits as its timestamp
+  -- the state that the words spell, whatever bits stand for its timestamp
   unfoldable pub stateButTime : Option State
   stateButTime = withPeer (addressOf (getD w 5 0) (getD w 6 0) (getD w 7 0))
 
-  -- with the bits of a timestamp (01, Records)
+  -- the state that the words spell: the bits are those of a timestamp (01, Records)
   unfoldable pub stateOf : Option State
   stateOf = cond (isTimestamp (ofBits binary64 (getD w 9 0))) stateButTime none
 
