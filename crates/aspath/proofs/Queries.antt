@@ -1,6 +1,6 @@
 -- Laws of the calls that ask something of a path.
 use mathlib.Core.Path.{_≡_, refl, sym, ap, _∙_}
-use mathlib.Core.List.{List, [], _∷_, _++_}
+use mathlib.Core.List.{List, [], _∷_}
 use mathlib.Core.Logic.{⊎-elim}
 use mathlib.Core.Bool.{Bool, true, false, cond, _&&_, _||_}
 use Prim.Native.Nat.{ℕ, zero, suc, _+_, _*_, _/_, _≤_, _<_, _^_}
@@ -10,7 +10,7 @@ use mir.Syntax.{w64}
 use mir.Val.{Fits}
 use lib.ListN.{length, getD, drop, length-append}
 use lib.Seq.{length-take-le}
-use lib.Dec.{ltb, eqb, eqb·suc-zero}
+use lib.Dec.{eqb, eqb·suc-zero}
 use borrow.Author.Tests.{lt-ltb, le-ltb, ne-eqb, eqb-true, eqb-false}
 use Rattle.aspath.specs.Lists.{foldMap}
 use Rattle.aspath.specs.Record.{Segment, spoilt, segmentsOf, path, numbersOf}

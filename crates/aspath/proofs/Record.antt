@@ -2,13 +2,11 @@
 use mathlib.Core.Path.{_≡_, refl, sym, ap, _∙_}
 use mathlib.Core.List.{List, [], _∷_, _++_}
 use mathlib.Core.Bool.{Bool, true, false, cond, not, _||_}
-use mathlib.Core.Option.{Option, some, none}
-use Prim.Native.Nat.{ℕ, zero, suc, _+_, _*_, _-_, _≤_, _<_}
-use native.Mathlib.Nat.{zero-add, add-assoc}
-use native.Mathlib.Numerals.{add-one}
+use mathlib.Core.Option.{some, none}
+use Prim.Native.Nat.{ℕ, _+_, _-_, _≤_, _<_}
 use native.Mathlib.Omega.{arith}
-use lib.ListN.{length, getD, take, drop, drop-of-length-le, length-append, length-map, length-take, length-drop, take-append-drop, List·getD-map}
-use lib.Seq.{drop-cons, take-all, take-at, drop-at, length-take-le, getD-take}
+use lib.ListN.{length, getD, take, drop, length-append, length-map, length-drop, take-append-drop, List·getD-map}
+use lib.Seq.{take-at, drop-at, length-take-le, getD-take}
 use lib.Dec.{ltb, eqb}
 use borrow.Author.Tests.{lt-ltb, le-ltb, ltb-false, eqb-true, eq-eqb, not-false}
 use Rattle.aspath.proofs.Lists.{fold-more, fold-end}

@@ -1,7 +1,7 @@
 -- Laws for a walk over the segments of a record with their numbers: where the numbers of the segment at hand stand.
-use mathlib.Core.Path.{_≡_, refl, sym, ap, _∙_}
-use mathlib.Core.List.{List, [], _∷_, _++_}
-use mathlib.Core.Bool.{Bool, true, false}
+use mathlib.Core.Path.{_≡_, sym, ap, _∙_}
+use mathlib.Core.List.{List, _∷_, _++_}
+use mathlib.Core.Bool.{false}
 use Prim.Native.Nat.{ℕ, _+_, _*_, _-_, _≤_, _<_}
 use native.Mathlib.Numerals.{add-one}
 use native.Mathlib.Omega.{arith}
@@ -11,7 +11,7 @@ use lib.ListN.{length, getD, take, drop, length-append, length-drop, take-append
 use lib.Seq.{drop-cons, take-at, drop-at, drop-drop, drop-append-le, take-append-le, length-take-le}
 use Rattle.aspath.specs.Lists.{foldMap}
 use Rattle.aspath.specs.Record.{Segment, spoilt, segmentsOf, numbersOf}
-use Rattle.aspath.proofs.Record.{no-segment, unspoilt-path, unspoilt-record, segments-count, segment-there, length-at, path-numbers}
+use Rattle.aspath.proofs.Record.{no-segment, unspoilt-path, unspoilt-record, segment-there, length-at, path-numbers}
 
 -- the numbers of the segments from i on stand from `at` on
 pub record Place (ks ls ns : List ℕ) (s n i at : ℕ) : Type 0 where

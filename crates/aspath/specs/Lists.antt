@@ -1,7 +1,7 @@
 -- Folds over a list, by which the operations on a path are said.
 use Prim.Native.Nat.{ℕ, _+_, _*_}
 use mathlib.Core.List.{List, [], _∷_, _++_}
-use mathlib.Core.Bool.{Bool, true, false, _||_}
+use mathlib.Core.Bool.{Bool, false, _||_}
 
 -- f of each element, joined by ⊕ in the order of the list; e of none
 unfoldable pub foldMap : {A B : Type 0} → (B → B → B) → B → (A → B) → List A → B

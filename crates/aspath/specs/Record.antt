@@ -1,7 +1,7 @@
 -- The path record (01, Records, Path): kinds, lengths and numbers in three lent lists, of which two counts say how much is used.
 use Prim.Native.Nat.{ℕ}
 use mathlib.Core.List.{List, [], _∷_, map}
-use mathlib.Core.Bool.{Bool, true, false, cond, not, _||_}
+use mathlib.Core.Bool.{Bool, cond, not, _||_}
 use mathlib.Core.Option.{Option, some, none}
 use lib.ListN.{length, take, drop}
 use lib.Dec.{ltb, eqb}

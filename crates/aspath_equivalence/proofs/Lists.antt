@@ -7,18 +7,11 @@ use native.Mathlib.Omega.{arith}
 use lib.Dec.{eqb}
 use borrow.Author.Tests.{eqb-true, eq-eqb}
 use Rattle.aspath.specs.Record.{Segment, cut, kindsOf, lengthsOf, numbersOf}
+use Rattle.aspath.proofs.Lists.{and-both}
 use Rattle.aspath.proofs.Record.{cut-flat}
 use Rattle.aspath_normal.specs.Normal.{sortSet}
 use Rattle.aspath_normal.proofs.Normal.{All, Sorted}
 use Rattle.aspath_equivalence.specs.Routing.{sameNumbers, sameSegment, samePath}
-
-and-left : (a b : Bool) → a && b ≡ true → a ≡ true
-and-left true b e = refl
-and-left false b e = e
-
-and-right : (a b : Bool) → a && b ≡ true → b ≡ true
-and-right true b e = e
-and-right false b e = let z : _≡_ {A = ℕ} 0 1 = cc in absurd (omega arith)
 
 abbrev of : ℕ → List ℕ → Segment
 of k n = record { kind = k; numbers = n }
@@ -30,7 +23,8 @@ same-numbers [] [] e = refl
 same-numbers [] (y ∷ b) e = let z : _≡_ {A = ℕ} 0 1 = cc in absurd (omega arith)
 same-numbers (x ∷ a) [] e = let z : _≡_ {A = ℕ} 0 1 = cc in absurd (omega arith)
 same-numbers (x ∷ a) (y ∷ b) e =
-    ap₂ (λ z l. z ∷ l) (eqb-true x y (and-left (eqb x y) (sameNumbers a b) e)) (same-numbers a b (and-right (eqb x y) (sameNumbers a b) e))
+    let both = and-both (eqb x y) (sameNumbers a b) e in
+    ap₂ (λ z l. z ∷ l) (eqb-true x y (both .0)) (same-numbers a b (both .1))
 
 numbers-same : (a : List ℕ) → sameNumbers a a ≡ true
 unfolding sameNumbers
@@ -42,18 +36,15 @@ unfolding samePath
 same-path [] [] a b e = refl
 same-path [] (y ∷ q) a b e = let z : _≡_ {A = ℕ} 0 1 = cc in absurd (omega arith)
 same-path (x ∷ p) [] a b e = let z : _≡_ {A = ℕ} 0 1 = cc in absurd (omega arith)
-same-path (x ∷ p) (y ∷ q) a b e =
-    ap₂ (λ z l. z ∷ l) same (same-path p q (a .1) (b .1) (and-right (sameSegment x y) (samePath p q) e))
+same-path (x ∷ p) (y ∷ q) a b e = ap₂ (λ z l. z ∷ l) (same (both .0)) (same-path p q (a .1) (b .1) (both .1))
   where
-    both : sameSegment x y ≡ true
-    both = and-left (sameSegment x y) (samePath p q) e
+    both : (sameSegment x y ≡ true) × (samePath p q ≡ true)
+    both = and-both (sameSegment x y) (samePath p q) e
 
-    same : x ≡ y
-    same =
-        sym (a .0)
-        ∙ ap₂ of (eqb-true (x .kind) (y .kind) (and-left (eqb (x .kind) (y .kind)) (sameNumbers (sortSet x .numbers) (sortSet y .numbers)) both))
-        (same-numbers (sortSet x .numbers) (sortSet y .numbers) (and-right (eqb (x .kind) (y .kind)) (sameNumbers (sortSet x .numbers) (sortSet y .numbers)) both))
-        ∙ b .0
+    same : sameSegment x y ≡ true → x ≡ y
+    same f =
+        let z = and-both (eqb (x .kind) (y .kind)) (sameNumbers (sortSet x .numbers) (sortSet y .numbers)) f in
+        sym (a .0) ∙ ap₂ of (eqb-true (x .kind) (y .kind) (z .0)) (same-numbers (sortSet x .numbers) (sortSet y .numbers) (z .1)) ∙ b .0
 
 path-same : (p : List Segment) → samePath p p ≡ true
 unfolding samePath
@@ -65,18 +56,13 @@ abbrev pub sameLists : List Segment → List Segment → Bool
 sameLists p q = sameNumbers (kindsOf p) (kindsOf q) && sameNumbers (lengthsOf p) (lengthsOf q) && sameNumbers (numbersOf p) (numbersOf q)
 
 same-lists : (p q : List Segment) → sameLists p q ≡ true → p ≡ q
-same-lists p q = go (sameNumbers (kindsOf p) (kindsOf q)) refl (sameNumbers (lengthsOf p) (lengthsOf q)) refl (sameNumbers (numbersOf p) (numbersOf q)) refl
-  where
-    go : (a : Bool) → sameNumbers (kindsOf p) (kindsOf q) ≡ a → (b : Bool) → sameNumbers (lengthsOf p) (lengthsOf q) ≡ b → (c : Bool)
-        → sameNumbers (numbersOf p) (numbersOf q) ≡ c → a && b && c ≡ true → p ≡ q
-    go true e true f true g h =
-        let k = same-numbers (kindsOf p) (kindsOf q) e in
-        let l = same-numbers (lengthsOf p) (lengthsOf q) f in
-        let n = same-numbers (numbersOf p) (numbersOf q) g in
-        sym (cut-flat p) ∙ (let s : cut (kindsOf p) (lengthsOf p) (numbersOf p) ≡ cut (kindsOf q) (lengthsOf q) (numbersOf q) = cc in s) ∙ cut-flat q
-    go true e true f false g h = let z : _≡_ {A = ℕ} 0 1 = cc in absurd (omega arith)
-    go true e false f c g h = let z : _≡_ {A = ℕ} 0 1 = cc in absurd (omega arith)
-    go false e b f c g h = let z : _≡_ {A = ℕ} 0 1 = cc in absurd (omega arith)
+same-lists p q h =
+    let two = and-both (sameNumbers (kindsOf p) (kindsOf q) && sameNumbers (lengthsOf p) (lengthsOf q)) (sameNumbers (numbersOf p) (numbersOf q)) h in
+    let one = and-both (sameNumbers (kindsOf p) (kindsOf q)) (sameNumbers (lengthsOf p) (lengthsOf q)) (two .0) in
+    let k = same-numbers (kindsOf p) (kindsOf q) (one .0) in
+    let l = same-numbers (lengthsOf p) (lengthsOf q) (one .1) in
+    let n = same-numbers (numbersOf p) (numbersOf q) (two .1) in
+    sym (cut-flat p) ∙ (let s : cut (kindsOf p) (lengthsOf p) (numbersOf p) ≡ cut (kindsOf q) (lengthsOf q) (numbersOf q) = cc in s) ∙ cut-flat q
 
 lists-same : (p : List Segment) → sameLists p p ≡ true
 lists-same p = simp (numbers-same (kindsOf p), numbers-same (lengthsOf p), numbers-same (numbersOf p))

@@ -10,22 +10,19 @@ use lib.Dec.{eqb}
 use borrow.Author.Tests.{eqb-true}
 use Rattle.aspath.specs.Lists.{foldMap}
 use Rattle.aspath.specs.Record.{Segment, kindsOf, lengthsOf, numbersOf}
+use Rattle.aspath.proofs.Lists.{and-both}
 use Rattle.aspath_normal.specs.Normal.{isSequence, mergeBy, scanFrom, scan, empty, append, coalesce}
 use Rattle.aspath_normal.specs.Entries.{entry, coalescedEntries}
 use Rattle.aspath_normal.proofs.Scan.{scan-one, scan-two}
 use Rattle.aspath_normal.proofs.Entries.{entries-of, entries-coalesced}
 
 -- coalesce moves no number
-no-numbers : (x : Segment) → empty x ≡ true → x .numbers ≡ []
+pub no-numbers : (x : Segment) → empty x ≡ true → x .numbers ≡ []
 no-numbers x e = go (x .numbers) (eqb-true (length (x .numbers)) 0 e)
   where
     go : (l : List ℕ) → length l ≡ 0 → l ≡ []
     go [] f = refl
     go (y ∷ l) f = absurd (omega arith)
-
-and-right : (a b : Bool) → a && b ≡ true → b ≡ true
-and-right true b e = e
-and-right false b e = let z : _≡_ {A = ℕ} 0 1 = cc in absurd (omega arith)
 
 merged-numbers : (x y z : Segment) → mergeBy (λ x. x .kind) empty append x y ≡ some z → z .numbers ≡ x .numbers ++ y .numbers
 merged-numbers x y z =
@@ -36,10 +33,10 @@ merged-numbers x y z =
     go true q r a b e = let f : append x y ≡ z = cc in ap (λ (t : Segment). t .numbers) (sym f)
     go false true r a b e =
         let f : y ≡ z = cc in
-        rw (no-numbers x (and-right (isSequence (x .kind)) (empty x) a)) (ap (λ (t : Segment). t .numbers) (sym f))
+        rw (no-numbers x (and-both (isSequence (x .kind)) (empty x) a .1)) (ap (λ (t : Segment). t .numbers) (sym f))
     go false false true a b e =
         let f : x ≡ z = cc in
-        rw (no-numbers y (and-right (isSequence (y .kind)) (empty y) b), append-nil (x .numbers)) (ap (λ (t : Segment). t .numbers) (sym f))
+        rw (no-numbers y (and-both (isSequence (y .kind)) (empty y) b .1), append-nil (x .numbers)) (ap (λ (t : Segment). t .numbers) (sym f))
     go false false false a b e = let z : _≡_ {A = ℕ} 0 1 = cc in absurd (omega arith)
 
 abbrev merge : Segment → Segment → Option Segment

@@ -3,7 +3,7 @@
 --     normal-join      nor does normalising them
 use mathlib.Core.Path.{_≡_, refl, sym, ap, ap₂, _∙_}
 use mathlib.Core.List.{List, [], _∷_, _++_, map, append-assoc, append-nil}
-use mathlib.Core.Bool.{Bool, true, false, cond, _&&_}
+use mathlib.Core.Bool.{Bool, true, false, cond, _&&_, and-false}
 use mathlib.Core.Option.{Option, some, none}
 use Prim.Native.Nat.{ℕ}
 use native.Mathlib.Omega.{arith}
@@ -12,8 +12,10 @@ use lib.Dec.{eqb}
 use borrow.Author.Tests.{eqb-true, eqb-false, ne-eqb}
 use Rattle.sort.proofs.Dedup.{dedup-twice}
 use Rattle.aspath.specs.Record.{Segment}
+use Rattle.aspath.proofs.Lists.{and-both}
 use Rattle.aspath_normal.specs.Normal.{isSequence, mergeBy, scanFrom, scan, empty, append, coalesce, dedupNumbers, dedupSegment, dedupCoalesce}
 use Rattle.aspath_normal.proofs.Scan.{scan-one, scan-two, Stable, merge-stable, scan-twice}
+use Rattle.aspath_normal.proofs.Calls.{no-numbers}
 use Rattle.aspath_normal.proofs.Steps.{scan-deduped, once-is-enough}
 use Rattle.aspath_normal.proofs.Normal.{All, Known, normal-segments, all-same}
 
@@ -67,24 +69,16 @@ alike x y = isSequence (x .kind) && eqb (x .kind) (y .kind)
 abbrev merge : Segment → Segment → Option Segment
 merge = mergeBy (λ x. x .kind) empty append
 
-no-numbers : (l : List ℕ) → length l ≡ 0 → l ≡ []
-no-numbers [] e = refl
-no-numbers (y ∷ l) e = absurd (omega arith)
-
-and-both : (a b : Bool) → a && b ≡ true → (a ≡ true) × (b ≡ true)
-and-both true b e = (refl, e)
-and-both false b e = let z : _≡_ {A = ℕ} 0 1 = cc in absurd (omega arith)
-
 -- joining with an empty sequence of the same kind changes nothing
 append-blank : (x y : Segment) → alike x y ≡ true → blank y ≡ true → append x y ≡ x
 append-blank x y e f =
     ap (λ n. record { kind = x .kind; numbers = n })
-    (rw (no-numbers (y .numbers) (eqb-true (length (y .numbers)) 0 (and-both (isSequence (y .kind)) (empty y) f .1))) (append-nil (x .numbers)))
+    (rw (no-numbers y (and-both (isSequence (y .kind)) (empty y) f .1)) (append-nil (x .numbers)))
 
 blank-append : (x y : Segment) → alike x y ≡ true → blank x ≡ true → append x y ≡ y
 blank-append x y e f =
     ap₂ (λ k n. record { kind = k; numbers = n }) (eqb-true (x .kind) (y .kind) (and-both (isSequence (x .kind)) (eqb (x .kind) (y .kind)) e .1))
-    (rw (no-numbers (x .numbers) (eqb-true (length (x .numbers)) 0 (and-both (isSequence (x .kind)) (empty x) f .1))))
+    (rw (no-numbers x (and-both (isSequence (x .kind)) (empty x) f .1)))
 
 -- the four steps of the scan
 module _ (x y : Segment) (l : List Segment) where
@@ -127,14 +121,6 @@ full-join x y e f = go (empty y) refl
     go false g =
         ap (λ b. isSequence (x .kind) && b) (ne-eqb (length (x .numbers ++ y .numbers)) 0 (λ h. eqb-false (length (y .numbers)) 0 g (omega (arith, h, length-append (x .numbers) (y .numbers)))))
         ∙ and-false (isSequence (x .kind))
-      where
-        and-false : (b : Bool) → b && false ≡ false
-        and-false true = refl
-        and-false false = refl
-
--- alike is by kind alone
-alike-kind : (x y z : Segment) → y .kind ≡ z .kind → alike x y ≡ alike x z
-alike-kind x y z e = ap (λ k. isSequence (x .kind) && eqb (x .kind) k) e
 
 alike-same : (x y : Segment) → alike x y ≡ true → x .kind ≡ y .kind
 alike-same x y e = eqb-true (x .kind) (y .kind) (and-both (isSequence (x .kind)) (eqb (x .kind) (y .kind)) e .1)

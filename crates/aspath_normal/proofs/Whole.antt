@@ -3,7 +3,7 @@ use mathlib.Core.Path.{_≡_, sym, ap, ap₂, _∙_}
 use mathlib.Core.List.{List, _++_, map, append-assoc}
 use Prim.Native.Nat.{ℕ, _+_, _-_, _≤_}
 use native.Mathlib.Omega.{arith}
-use lib.ListN.{length, take, drop, replicate, length-append, length-map, length-replicate, replicate-append-replicate}
+use lib.ListN.{length, take, drop, replicate, length-append, length-map, replicate-append-replicate}
 use lib.Seq.{take-at, drop-at}
 use Rattle.aspath.specs.Lists.{sum}
 use Rattle.aspath.specs.Record.{Segment, cut, kindsOf, lengthsOf, numbersOf}
@@ -24,9 +24,6 @@ padded-twice a m n h k =
     ∙ ap (λ l. a ++ l)
     (replicate-append-replicate (m - length a) (n - m) 0
     ∙ (let e : m - length a + (n - m) ≡ n - length a = omega arith in ap (λ j. replicate j 0) e))
-
-padded-length : (a : List ℕ) (n : ℕ) → length a ≤ n → length (padded n a) ≡ n
-padded-length a n h = simp (length-append, length-replicate) (omega arith)
 
 module _ (ks ls ns : List ℕ) (fit : Fit ks ls ns) where
   abbrev p : List Segment

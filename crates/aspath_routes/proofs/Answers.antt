@@ -1,8 +1,8 @@
 -- Laws of what a call for a route answers: one for each way.
-use mathlib.Core.Path.{_≡_, refl, sym, ap, _∙_}
+use mathlib.Core.Path.{_≡_, refl, _∙_}
 use mathlib.Core.List.{List}
-use mathlib.Core.Bool.{Bool, true, false, cond}
-use mathlib.Core.Option.{Option, some, none}
+use mathlib.Core.Bool.{Bool, true, false}
+use mathlib.Core.Option.{some, none}
 use Prim.Native.Nat.{ℕ, _≤_, _<_, _^_}
 use native.Mathlib.Omega.{arith}
 use lib.ListN.{length, getElem?}

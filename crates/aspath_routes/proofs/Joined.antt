@@ -2,7 +2,7 @@
 use mathlib.Core.Path.{_≡_, refl, sym, ap, _∙_}
 use mathlib.Core.List.{List, [], _∷_, _++_}
 use mathlib.Core.Bool.{Bool, true, false, cond, not, _&&_}
-use mathlib.Core.Option.{Option, some, none}
+use mathlib.Core.Option.{some, none}
 use Prim.Native.Nat.{ℕ, suc, _+_, _-_, _≤_, _<_}
 use native.Mathlib.Nat.{min-le-left}
 use native.Mathlib.Omega.{arith}
@@ -14,20 +14,12 @@ use borrow.Author.Tests.{le-leb, lt-leb, not-true, not-false}
 use Rattle.output.specs.Output.{Written}
 use Rattle.output.proofs.Output.{Left, next-left, none-left, kept, whole}
 use Rattle.aspath.specs.Lists.{foldMap}
-use Rattle.aspath.specs.Record.{Segment, spoilt, segmentsOf, path}
+use Rattle.aspath.specs.Record.{spoilt, segmentsOf, path}
 use Rattle.aspath.proofs.Record.{spoilt-path, unspoilt-path, segments-count}
 use Rattle.aspath.proofs.Walk.{Place, segment-next, numbers-here, end-small}
 use Rattle.aspath_routes.specs.Runs.{after, runs}
 use Rattle.aspath_routes.specs.Joined.{allSimple, joined, some-numbers, toU32Vec, Answered}
 use Rattle.aspath_routes.specs.declared.U32Vec.the-variants.{Count, Nothing, FewPlaces, Spoilt}
-
-pub and-assoc : (a b c : Bool) → a && b && c ≡ a && (b && c)
-and-assoc true b c = refl
-and-assoc false b c = refl
-
-pub and-true : (a : Bool) → a && true ≡ a
-and-true true = refl
-and-true false = refl
 
 after-short : (d : Bool) (a : ℕ) (s : List ℕ) → length (after d a s) ≤ length s
 unfolding after

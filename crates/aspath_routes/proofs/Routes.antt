@@ -2,7 +2,7 @@
 use mathlib.Core.Path.{_≡_, refl, sym, ap, _∙_}
 use mathlib.Core.List.{List, [], _∷_, _++_, map}
 use mathlib.Core.Bool.{Bool, true, false, cond, _&&_}
-use mathlib.Core.Option.{Option, some, none}
+use mathlib.Core.Option.{some, none}
 use mathlib.Core.Logic.{⊎-elim}
 use Prim.Native.Nat.{ℕ, zero, suc, _+_, _*_, _/_, _%_, _-_, _≤_, _<_}
 use native.Mathlib.Nat.{mod-lt, div-add-mod', div-lt-iff-lt-mul, mul-comm, mul-zero, mul-suc, suc-mul, zero-mul, one-mul, zero-add, eq-zero-or-pos}
@@ -12,8 +12,8 @@ use lib.Dec.{ltb, eqb}
 use borrow.Author.Tests.{lt-ltb, eqb-true}
 use Rattle.aspath.specs.Lists.{foldMap, concatOf}
 use Rattle.aspath.specs.Record.{Segment}
-use Rattle.aspath.specs.Queries.{choices, variations, segmentRouteLen, routeLen}
-use Rattle.aspath_routes.specs.Routes.{routes, taken, left, numbered}
+use Rattle.aspath.specs.Queries.{variations, routeLen}
+use Rattle.aspath_routes.specs.Routes.{routes, left, numbered}
 
 -- the element at a place of a list, of an append and of a map
 module _ {A : Type 0} where

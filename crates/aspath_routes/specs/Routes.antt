@@ -2,7 +2,7 @@
 use Prim.Native.Nat.{ℕ, _/_, _%_, _^_}
 use mathlib.Core.Path.{_≡_}
 use mathlib.Core.List.{List, [], _∷_, _++_, map}
-use mathlib.Core.Bool.{Bool, true, false, cond, _&&_}
+use mathlib.Core.Bool.{cond, _&&_}
 use mathlib.Core.Option.{Option, some, none}
 use lib.ListN.{length, getD, getElem?}
 use lib.Dec.{ltb, leb, eqb}

@@ -1,7 +1,7 @@
 -- Vec::dedup, where it is asked for: of equal neighbours the first stays.
 use Prim.Native.Nat.{ℕ}
 use mathlib.Core.List.{List, [], _∷_}
-use mathlib.Core.Bool.{Bool, true, false, cond, _&&_}
+use mathlib.Core.Bool.{Bool, cond, _&&_}
 use lib.Dec.{eqb}
 
 -- what stays of the numbers behind prev

@@ -1,15 +1,14 @@
 -- Whether words spell a state, and the state that they spell then: one law for each way through the code. Assumes nothing.
-use mathlib.Core.Path.{_≡_, refl, sym, ap, _∙_, subst}
-use mathlib.Core.Bool.{Bool, true, false, not, cond, _&&_, _||_}
+use mathlib.Core.Path.{_≡_, refl, sym, ap, _∙_}
+use mathlib.Core.Bool.{Bool, true, false, not, cond, _&&_, _||_, and-true, and-false}
 use mathlib.Core.List.{List}
 use mathlib.Core.Option.{Option, some, none}
-use Prim.Native.Nat.{ℕ, _%_, _≤_, _<_}
+use Prim.Native.Nat.{ℕ, _≤_}
 use native.Mathlib.Omega.{arith}
 use lib.ListN.{getD}
-use lib.Dec.{T, eqb, leb}
-use lib.Ieee.{Float, nan, inf, fin, binary64, isNan, ofBits}
-use lib.Ieee.Bits.{nanBits-is, nanBits-above}
-use borrow.Author.Tests.{leb-true, not-true, not-false, eq-eqb, ne-eqb, lt-ltb, le-leb}
+use lib.Dec.{eqb, leb}
+use lib.Ieee.{Float, binary64, ofBits}
+use borrow.Author.Tests.{leb-true, not-true, not-false, eq-eqb, ne-eqb, le-leb}
 use Rattle.network.specs.declared.IpAddr.{IpAddr}
 use Rattle.network.specs.declared.IpAddr.the-variants.{V4, V6}
 use Rattle.seconds.specs.Seconds.{isTimestamp, timestampOfBits}
@@ -142,25 +141,7 @@ module _ (bits : ℕ) where
         go true f = let z : _≡_ {A = ℕ} 0 1 = cc (timed true f) in absurd (omega arith)
         go false f = refl
 
--- the float of any bits
-only-nan : (x : Float) → isNan x ≡ true → nan ≡ x
-unfolding isNan
-only-nan nan e = refl
-only-nan (inf s) e = absurd (subst T (sym e) tt)
-only-nan (fin s m t) e = absurd (subst T (sym e) tt)
-
-pub of-nan : (bits : ℕ) → 0x7ff0_0000_0000_0000 < bits % 0x8000_0000_0000_0000 → nan ≡ ofBits binary64 bits
-of-nan bits h = only-nan (ofBits binary64 bits) (sym (nanBits-is binary64 bits) ∙ nanBits-above binary64 bits ∙ lt-ltb _ _ h)
-
 -- a state
-and-true : (a : Bool) → (a && true) ≡ a
-and-true true = refl
-and-true false = refl
-
-and-false : (a : Bool) → (a && false) ≡ false
-and-false true = refl
-and-false false = refl
-
 abbrev pub ifTimed : Option State → Option State
 ifTimed (some σ) = cond (isTimestamp (σ .timestamp)) (some σ) none
 ifTimed none = none

@@ -1,13 +1,13 @@
 -- Laws of a route's line that is put together from texts: a plain path's text is copied.
 use Prim.Native.Nat.{ℕ, _+_, _-_, _*_, _/_, _%_, _^_, _≤_, _<_}
 use mathlib.Core.Path.{_≡_, refl, sym, ap, subst, _∙_}
-use mathlib.Core.Bool.{Bool, true, false, cond}
+use mathlib.Core.Bool.{false}
 use mathlib.Core.List.{List, [], _∷_, _++_, map, append-assoc, append-nil}
 use native.Mathlib.Omega.{arith}
 use native.Mathlib.Numerals.{add-one}
 use lib.ListN.{length, getD, take, drop}
 use lib.Seq.{take-add, take-suc}
-use lib.Dec.{leb, eqb}
+use lib.Dec.{eqb}
 use borrow.Author.Tests.{leb-true, ne-eqb}
 use Rattle.output.specs.Output.{Written, front, answer}
 use Rattle.output.specs.declared.Put.{Put}
@@ -29,7 +29,7 @@ use Rattle.psv_stream.specs.Printed.{feed}
 use Rattle.psv_stream.specs.Parts.{Spells, IsPlain, copiedText, Copies}
 use Rattle.psv_stream.specs.declared.PlainPath.{PlainPath}
 use Rattle.psv_stream.specs.declared.PlainPath.the-variants as plain
-use Rattle.psv_stream.proofs.Texts.{part-put, whole-again}
+use Rattle.psv_stream.proofs.Texts.{Told, told-by, part-put, whole-again}
 
 -- the origin AS is the last of the numbers
 last-text : (ns : List ℕ) → lastOr [] (map decimal ns) ≡ asnText (originAsn ns)
@@ -118,24 +118,14 @@ module _ (begin path : List ℕ) (e : Element) (out part : List ℕ) (last end :
   abbrev text : List ℕ
   text = copiedText begin path e
 
+  known : (q : Put) → r ≡ q → Told text (take 65536 out) part q
+  known q f = subst (Told text (take 65536 out) part) f (told-by text (take 65536 out) part r (rw (s .text, s .asn) at told))
+
   pub copied-put : length path ≤ 16384 → (n : ℕ) → r ≡ written.Wrote n → (new : List ℕ) (w : ℕ) → Written feed (part ++ drop 65536 out) n new w
       → Copies begin path e out new (written.Wrote w)
-  unfolding answer front
-  copied-put few n f new w v = go (leb (length text) (length (take 65536 out))) refl (rw (s .text, s .asn) at (sym f ∙ told .0)) (rw (s .text, s .asn) at (told .1))
-    where
-      go : (b : Bool) → leb (length text) (length (take 65536 out)) ≡ b → written.Wrote n ≡ cond b (written.Wrote (length text)) written.TooShort
-          → part ≡ cond b (text ++ drop (length text) (take 65536 out)) (take 65536 out) → Copies begin path e out new (written.Wrote w)
-      go true i g h =
-          let k : n ≡ length text = cc in
-          let y = part-put out part room text i h new w (rw k at v) in
-          (leb-true (length (asnsOf path)) 16384 (sym (many-places path 16384 few)), y .0, y .1)
-      go false i g h = let y : _≡_ {A = ℕ} 0 1 = cc in absurd (omega arith)
+  copied-put few n f new w v =
+      let y = part-put out part room text n (known (written.Wrote n) f) new w v in
+      (leb-true (length (asnsOf path)) 16384 (sym (many-places path 16384 few)), y .0, y .1)
 
   pub copied-short : r ≡ written.TooShort → Copies begin path e out (part ++ drop 65536 out) written.TooShort
-  unfolding answer front
-  copied-short f = go (leb (length text) (length (take 65536 out))) (rw (s .text, s .asn) at (sym f ∙ told .0)) (rw (s .text, s .asn) at (told .1))
-    where
-      go : (b : Bool) → written.TooShort ≡ cond b (written.Wrote (length text)) written.TooShort
-          → part ≡ cond b (text ++ drop (length text) (take 65536 out)) (take 65536 out) → part ++ drop 65536 out ≡ out
-      go true g h = let y : _≡_ {A = ℕ} 0 1 = cc in absurd (omega arith)
-      go false g h = whole-again out part room h
+  copied-short f = whole-again out part room (known written.TooShort f .1)

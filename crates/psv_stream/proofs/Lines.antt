@@ -115,16 +115,6 @@ module _ (p : Phase) (out : List ℕ) where
   pub on-stopped : (s : List ℕ) (e : ℕ) → p ≡ Stopped → Does (acts p (take e s)) s e out out (step.Stops 0)
   on-stopped s e f = rw f (puts-none out, refl)
 
--- whether the loop over the head goes on
-module _ (p : Phase) where
-  pub head-path : p ≡ Path → true ≡ isHead p
-  head-path f = rw f
-
-  pub head-header : (t : Float) (n size : ℕ) → p ≡ Header t n size → true ≡ isHead p
-  head-header t n size f = rw f
-
-  pub head-body : (σ : State) (n : ℕ) → p ≡ Body σ n → (τ : State) → τ ≡ turned σ → (r : Bool) → r ≡ spoilt τ 0 → r ≡ isHead p
-  head-body σ n f τ g r h = rw f (h ∙ ap (λ (u : State). spoilt u 0) g)
-
-  pub head-stopped : p ≡ Stopped → false ≡ isHead p
-  head-stopped f = rw f
+-- the loop over the head goes on under a spoilt state
+pub head-body : (p : Phase) (σ : State) (n : ℕ) → p ≡ Body σ n → (τ : State) → τ ≡ turned σ → (r : Bool) → r ≡ spoilt τ 0 → r ≡ isHead p
+head-body p σ n f τ g r h = rw f (h ∙ ap (λ (u : State). spoilt u 0) g)

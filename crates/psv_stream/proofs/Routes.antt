@@ -1,7 +1,7 @@
 -- A route's line: by the numbers of its path, or put together from texts; and what the lines of the body begin with.
 use Prim.Native.Nat.{ℕ, _+_, _-_, _≤_, _<_}
 use mathlib.Core.Path.{_≡_, refl, sym, ap, subst, _∙_}
-use mathlib.Core.Bool.{Bool, true, false, cond, not, _||_}
+use mathlib.Core.Bool.{Bool, true, false, not, _||_}
 use mathlib.Core.List.{List, _++_, append-assoc}
 use native.Mathlib.Omega.{arith}
 use lib.ListN.{length, take, drop, length-append, length-take}
@@ -37,11 +37,11 @@ use Rattle.text_dump.specs.Rules.{textOf, originAsn, elementOf}
 use Rattle.text_dump.specs.declared.Remembered.{Remembered}
 use Rattle.text_dump.specs.declared.Remembered.the-variants as remembered
 use Rattle.text_dump.specs.declared.State.{State}
-use Rattle.text_dump.proofs.StateLaws.{stored-plain, first}
+use Rattle.text_dump.proofs.StateLaws.{stored-plain, first, second}
 use Rattle.psv_stream.specs.Parts.{PutElement, elementFor, PutRoute, PutCopy, copiedText, Copies, frontOf, Fine, Begins, keptLen}
 use Rattle.psv_stream.specs.declared.RoutePut.{RoutePut}
 use Rattle.psv_stream.specs.declared.RoutePut.the-variants as route
-use Rattle.psv_stream.proofs.Texts.{text-taken, spoilt-taken}
+use Rattle.psv_stream.proofs.Texts.{Told, told-by, text-taken, spoilt-taken}
 
 -- by the numbers
 module _ (σ : State) (p : NetworkPrefix) (e : RouteEntry) (path old : List ℕ) (places : length old ≡ 16384) (r : AsnsPut) (new : List ℕ) (told : (r ≡ putAnswer (asnsOf path) old) × (new ≡ front (asnsOf path) old)) where
@@ -102,11 +102,6 @@ module _ (σ : State) (p : NetworkPrefix) (e : RouteEntry) (ns : List ℕ) where
   pub unspoilt : isTimestamp (σ .timestamp) ≡ true → validPrefix p ≡ true → spoiltElement (elementFor σ p e ns) ns ≡ false
   unfolding spoiltElement
   unspoilt time valid = rw (valid, time, le-ltb (length ns) (length ns) (omega arith))
-
-  second : (a b : Bool) → (a || not b) ≡ false → b ≡ true
-  second a true h = refl
-  second true false h = let z : _≡_ {A = ℕ} 0 1 = cc in absurd (omega arith)
-  second false false h = sym h
 
   fine-element : Fine σ (remembered.Valid p) → spoiltElement (elementFor σ p e ns) ns ≡ false
   unfolding spoilt
@@ -212,17 +207,11 @@ module _ (σ : State) (m : Remembered) (out : List ℕ) where
   no-front = record { front-inside = omega arith; is-front = λ h. absurd (omega arith); inside = omega arith; is-begin = λ q e h. absurd (omega arith) }
 
   pub front-put : (r : Put) (new : List ℕ) → (r ≡ answer (frontOf σ) out) × (new ≡ front (frontOf σ) out) → (n : ℕ) → r ≡ written.Wrote n → Begins (frontOf σ) new n m 0
-  unfolding answer front
-  front-put r new told n e = go (leb (length (frontOf σ)) (length out)) (sym e ∙ told .0) (told .1)
-    where
-      go : (b : Bool) → written.Wrote n ≡ cond b (written.Wrote (length (frontOf σ))) written.TooShort → new ≡ cond b (frontOf σ ++ drop (length (frontOf σ)) out) out
-          → Begins (frontOf σ) new n m 0
-      go true g h =
-          let k : n ≡ length (frontOf σ) = cc in
-          record {
-            front-inside = rw (h, length-append) (omega arith);
-            is-front = λ i. rw h (take-at (frontOf σ) (drop (length (frontOf σ)) out) n (sym k));
-            inside = omega arith;
-            is-begin = λ q f i. absurd (omega arith);
-          }
-      go false g h = let y : _≡_ {A = ℕ} 0 1 = cc in absurd (omega arith)
+  front-put r new told n e =
+      let z : Told (frontOf σ) out new (written.Wrote n) = rw e at (told-by (frontOf σ) out new r told) in
+      record {
+        front-inside = rw (z .2, length-append) (omega (arith, z .0));
+        is-front = λ i. rw (z .2) (take-at (frontOf σ) (drop (length (frontOf σ)) out) n (sym (z .0)));
+        inside = omega arith;
+        is-begin = λ q f i. absurd (omega arith);
+      }

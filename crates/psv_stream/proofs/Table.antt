@@ -1,7 +1,7 @@
 -- What is printed of a table of which no line is refused: the PSV lines of its elements, which are those of the joined body (demand 3).
 use Prim.Native.Nat.{ℕ, _+_, _-_, _≤_}
 use mathlib.Core.Path.{_≡_, refl, sym, ap, _∙_}
-use mathlib.Core.Bool.{true, false}
+use mathlib.Core.Bool.{true}
 use mathlib.Core.List.{List, [], _∷_, _++_, map, flatten, map-append, append-nil}
 use mathlib.Core.Option.{none}
 use native.Mathlib.Omega.{arith}
@@ -19,7 +19,7 @@ use Rattle.network.proofs.Valid.{read-valid}
 use Rattle.plain_reader.specs.Lists.{Each}
 use Rattle.plain_reader.specs.Rules.{Remembered, nothing, invalid, valid, unreadable, passed, wrapped, route, replace}
 use Rattle.plain_reader.specs.Rules.{Line as Plain}
-use Rattle.plain_reader.specs.Calls.{Answer, element, end}
+use Rattle.plain_reader.specs.Calls.{Answer, end}
 use Rattle.plain_reader.specs.Plain.{take-line, take-lines}
 use Rattle.plain_reader.specs.Elements.{after-line, routes, under, yielded, alone, Suffices}
 use Rattle.plain_reader.specs.Cursor.{view, located}

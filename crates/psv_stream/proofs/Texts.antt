@@ -1,6 +1,6 @@
 -- Texts at the front of the lent list: a refusal, the PSV header, an element's line.
 use Prim.Native.Nat.{ℕ, _+_, _-_, _≤_, _<_}
-use mathlib.Core.Path.{_≡_, refl, sym, ap, _∙_}
+use mathlib.Core.Path.{_≡_, refl, sym, ap, subst, _∙_}
 use mathlib.Core.Bool.{Bool, true, false, cond}
 use mathlib.Core.List.{List, [], _++_, append-assoc}
 use native.Mathlib.Nat.{zero-add}
@@ -8,7 +8,7 @@ use native.Mathlib.Omega.{arith}
 use lib.ListN.{length, take, drop, length-append, length-take, take-append-drop}
 use lib.Seq.{take-at, drop-at, take-take, drop-append-le}
 use lib.Dec.{leb, ltb}
-use borrow.Author.Tests.{le-leb, leb-true, leb-false, lt-ltb, le-ltb, ltb-true, ltb-false}
+use borrow.Author.Tests.{leb-true, leb-false, lt-ltb, le-ltb, ltb-true, ltb-false}
 use mir.Syntax.{w64}
 use mir.Val.{Fits}
 use Rattle.scan.specs.Ascii.{ascii}
@@ -76,87 +76,87 @@ front-written t out h =
 with-feed : (t out new : List ℕ) (w : ℕ) → length t < length out → Written feed (t ++ drop (length t) out) (length t) new w → Puts (t ++ feed) out new w
 with-feed t out new w h v = puts (t ++ feed) out new w (then (front-written t out (omega arith)) v) (rw length-append (omega arith))
 
+-- a call that measures its text, by its answer
+abbrev pub Told : List ℕ → List ℕ → List ℕ → Put → Type 0
+Told t out new (answers.Wrote n) = (n ≡ length t) × (length t ≤ length out) × (new ≡ t ++ drop (length t) out)
+Told t out new answers.TooShort = (length out < length t) × (new ≡ out)
+
+pub told-by : (t out new : List ℕ) (r : Put) → (r ≡ answer t out) × (new ≡ front t out) → Told t out new r
+unfolding answer front
+told-by t out new r told = subst (Told t out new) (sym (told .0)) (go (leb (length t) (length out)) refl (told .1))
+  where
+    go : (b : Bool) → leb (length t) (length out) ≡ b → new ≡ cond b (t ++ drop (length t) out) out → Told t out new (cond b (answers.Wrote (length t)) answers.TooShort)
+    go true e h = (refl, leb-true (length t) (length out) e, h)
+    go false e h = (leb-false (length t) (length out) e, h)
+
+-- the same of one that tests its element first
+abbrev Said : Bool → List ℕ → List ℕ → List ℕ → ElementPut → Type 0
+Said s t out new (put.Wrote n) = (s ≡ false) × Told t out new (answers.Wrote n)
+Said s t out new put.Spoilt = (s ≡ true) × (new ≡ out)
+Said s t out new put.TooShort = (s ≡ false) × Told t out new answers.TooShort
+
+said-by : (s : Bool) (t out new : List ℕ) (r : ElementPut) → Printed s t out r new → Said s t out new r
+unfolding front
+said-by s t out new r p = subst (Said s t out new) (sym (p .told)) (go s (leb (length t) (length out)) refl (p .left))
+  where
+    go : (s b : Bool) → leb (length t) (length out) ≡ b → new ≡ cond s out (cond b (t ++ drop (length t) out) out)
+        → Said s t out new (cond s put.Spoilt (cond b (put.Wrote (length t)) put.TooShort))
+    go true b e h = (refl, h)
+    go false true e h = (refl, (refl, leb-true (length t) (length out) e, h))
+    go false false e h = (refl, (leb-false (length t) (length out) e, h))
+
 -- the PSV header
 header-length : length headerText ≡ 142
 unfolding headerText separated
 header-length = refl
 
-module _ (out : List ℕ) (room : 65537 ≤ length out) where
-  header-fits : leb (length headerText) (length out) ≡ true
-  header-fits = le-leb (length headerText) (length out) (omega (arith, header-length))
+module _ (out : List ℕ) (room : 65537 ≤ length out) (r : Put) (o : List ℕ) (told : (r ≡ answer headerText out) × (o ≡ front headerText out)) where
+  pub header-never-short : r ≡ answers.TooShort → Puts (headerText ++ feed) out o 0
+  header-never-short e =
+      let z : Told headerText out o answers.TooShort = rw e at (told-by headerText out o r told) in
+      absurd (omega (arith, header-length, z .0))
 
-  module _ (r : Put) (o : List ℕ) (told : (r ≡ answer headerText out) × (o ≡ front headerText out)) where
-    pub header-never-short : r ≡ answers.TooShort → Puts (headerText ++ feed) out o 0
-    unfolding answer
-    header-never-short e =
-        let z : answers.TooShort ≡ answers.Wrote (length headerText) = rw header-fits at (sym e ∙ told .0) in
-        let y : _≡_ {A = ℕ} 0 1 = cc in absurd (omega arith)
-
-    pub header-put : (n : ℕ) → r ≡ answers.Wrote n → (new : List ℕ) (w : ℕ) → Written feed o n new w → Puts (headerText ++ feed) out new w
-    unfolding answer front
-    header-put n e new w v =
-        let z : answers.Wrote n ≡ answers.Wrote (length headerText) = rw header-fits at (sym e ∙ told .0) in
-        let k : n ≡ length headerText = cc in
-        let l : o ≡ headerText ++ drop (length headerText) out = told .1 ∙ rw header-fits in
-        with-feed headerText out new w (omega (arith, header-length)) (rw (l, k) at v)
+  pub header-put : (n : ℕ) → r ≡ answers.Wrote n → (new : List ℕ) (w : ℕ) → Written feed o n new w → Puts (headerText ++ feed) out new w
+  header-put n e new w v =
+      let z : Told headerText out o (answers.Wrote n) = rw e at (told-by headerText out o r told) in
+      with-feed headerText out new w (omega (arith, header-length)) (rw (z .2, z .0) at v)
 
 -- a text put to the first 65,536 bytes, and a line feed behind it
 module _ (out part : List ℕ) (room : 65537 ≤ length out) where
   part-length : length (take 65536 out) ≡ 65536
   part-length = simp length-take (omega arith)
 
-  pub part-put : (t : List ℕ) → leb (length t) (length (take 65536 out)) ≡ true → part ≡ t ++ drop (length t) (take 65536 out) → (new : List ℕ) (w : ℕ)
-      → Written feed (part ++ drop 65536 out) (length t) new w → (length t ≤ 65536) × Puts (t ++ feed) out new w
-  part-put t e l new w v =
-      let h : length t ≤ 65536 = omega (arith, part-length, leb-true (length t) (length (take 65536 out)) e) in
+  pub part-put : (t : List ℕ) (n : ℕ) → Told t (take 65536 out) part (answers.Wrote n) → (new : List ℕ) (w : ℕ)
+      → Written feed (part ++ drop 65536 out) n new w → (length t ≤ 65536) × Puts (t ++ feed) out new w
+  part-put t n z new w v =
+      let h : length t ≤ 65536 = omega (arith, part-length, z .1) in
       let o : part ++ drop 65536 out ≡ t ++ drop (length t) out =
-      rw (l, append-assoc, ← drop-append-le (length t) (take 65536 out) (drop 65536 out) (omega (arith, part-length)), take-append-drop) in
-      (h, with-feed t out new w (omega arith) (rw o at v))
+      rw (z .2, append-assoc, ← drop-append-le (length t) (take 65536 out) (drop 65536 out) (omega (arith, part-length)), take-append-drop) in
+      (h, with-feed t out new w (omega arith) (rw (o, z .0) at v))
 
   -- and where there is no room for it
   pub whole-again : part ≡ take 65536 out → part ++ drop 65536 out ≡ out
   whole-again f = rw f (take-append-drop 65536 out)
 
 -- an element's line, printed to the first 65,536 bytes
-wrote : (s b : Bool) (n m : ℕ) → put.Wrote n ≡ cond s put.Spoilt (cond b (put.Wrote m) put.TooShort) → (s ≡ false) × (b ≡ true) × (n ≡ m)
-wrote true b n m e = let y : _≡_ {A = ℕ} 0 1 = cc in absurd (omega arith)
-wrote false true n m e = (refl, refl, cc)
-wrote false false n m e = let y : _≡_ {A = ℕ} 0 1 = cc in absurd (omega arith)
-
-told-spoilt : (s b : Bool) (m : ℕ) → put.Spoilt ≡ cond s put.Spoilt (cond b (put.Wrote m) put.TooShort) → s ≡ true
-told-spoilt true b m e = refl
-told-spoilt false true m e = let y : _≡_ {A = ℕ} 0 1 = cc in absurd (omega arith)
-told-spoilt false false m e = let y : _≡_ {A = ℕ} 0 1 = cc in absurd (omega arith)
-
-told-short : (s b : Bool) (m : ℕ) → put.TooShort ≡ cond s put.Spoilt (cond b (put.Wrote m) put.TooShort) → (s ≡ false) × (b ≡ false)
-told-short true b m e = let y : _≡_ {A = ℕ} 0 1 = cc in absurd (omega arith)
-told-short false true m e = let y : _≡_ {A = ℕ} 0 1 = cc in absurd (omega arith)
-told-short false false m e = (refl, refl)
-
 module _ (e : Element) (asns out part : List ℕ) (r : ElementPut) (room : 65537 ≤ length out) (p : Printed (spoilt e asns) (psvText e asns) (take 65536 out) r part) where
   abbrev text : List ℕ
   text = psvText e asns
 
+  said : (q : ElementPut) → r ≡ q → Said (spoilt e asns) text (take 65536 out) part q
+  said q f = subst (Said (spoilt e asns) text (take 65536 out) part) f (said-by (spoilt e asns) text (take 65536 out) part r p)
+
   pub element-put : (n : ℕ) → r ≡ put.Wrote n → (new : List ℕ) (w : ℕ) → Written feed (part ++ drop 65536 out) n new w → PutElement e asns out new (put.Wrote w)
-  unfolding front
   element-put n f new w v =
-      let z = wrote (spoilt e asns) (leb (length text) (length (take 65536 out))) n (length text) (sym f ∙ p .told) in
-      let y = part-put out part room text (z .1) (p .left ∙ rw (z .0, z .1)) new w (rw (z .2) at v) in
+      let z = said (put.Wrote n) f in
+      let y = part-put out part room text n (z .1) new w v in
       (z .0, y .0, y .1)
 
   pub element-spoilt : r ≡ put.Spoilt → PutElement e asns out (part ++ drop 65536 out) put.Spoilt
-  element-spoilt f =
-      let z = told-spoilt (spoilt e asns) (leb (length text) (length (take 65536 out))) (length text) (sym f ∙ p .told) in
-      (z, whole-again out part room (p .left ∙ rw z))
+  element-spoilt f = let z = said put.Spoilt f in (z .0, whole-again out part room (z .1))
 
   pub element-short : r ≡ put.TooShort → PutElement e asns out (part ++ drop 65536 out) put.TooShort
-  unfolding front
-  element-short f =
-      let z = told-short (spoilt e asns) (leb (length text) (length (take 65536 out))) (length text) (sym f ∙ p .told) in (
-        z .0,
-        omega (arith, part-length out part room, leb-false (length text) (length (take 65536 out)) (z .1)),
-        whole-again out part room (p .left ∙ rw (z .0, z .1)),
-      )
+  element-short f = let z = said put.TooShort f in (z .0, omega (arith, part-length out part room, z .1 .0), whole-again out part room (z .1 .1))
 
 -- only the first so many of the lent AS numbers are the element's
 few : (n : ℕ) (l : List ℕ) → ltb (length (take n l)) n ≡ ltb (length l) n

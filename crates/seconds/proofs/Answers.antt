@@ -1,12 +1,12 @@
 -- Each answer of the functions over `secondOf`, from the tests and answers that lead to it. Assumes nothing.
-use mathlib.Core.Path.{_≡_, refl, sym, ap, _∙_}
-use mathlib.Core.Bool.{true, false, cond}
+use mathlib.Core.Path.{_≡_, sym, ap, _∙_}
+use mathlib.Core.Bool.{true, false}
 use mathlib.Core.Option.{Option, some, none}
 use Prim.Native.Nat.{ℕ, _+_, _-_, _≤_, _<_}
 use lib.IntN.{pos}
 use lib.Ieee.{Float, fin, lt, neg, binary64, ofBits}
 use borrow.Author.Tests.{le-leb, lt-leb}
-use Rattle.seconds.specs.Seconds.{wholeNumber, before1970, since1970, asMagnitude, secondOf, asSecond, isSome, isTimestamp, ifTimestamp, timestampOfBits}
+use Rattle.seconds.specs.Seconds.{wholeNumber, before1970, since1970, asMagnitude, secondOf, asSecond, isSome, isTimestamp, timestampOfBits}
 use Rattle.seconds.specs.declared.Magnitude.{Magnitude}
 use Rattle.seconds.specs.declared.Magnitude.the-variants as magnitude
 use Rattle.seconds.specs.declared.SecondRead.{SecondRead}

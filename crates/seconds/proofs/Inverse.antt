@@ -4,7 +4,7 @@ use mathlib.Core.Bool.{Bool, true, false, not, cond}
 use Prim.Native.Nat.{ℕ, zero, suc, _+_, _-_, _*_, _^_, _≤_, _<_}
 use native.Mathlib.Nat.{mul-pos}
 use native.Mathlib.Omega.{arith}
-use lib.Dec.{T, leb, ltb, eqb, lt→ltb}
+use lib.Dec.{T, leb, ltb}
 use lib.IntN.{pos, negsuc}
 use lib.Count.{trailingZeros}
 use lib.Ieee.{Float, nan, inf, fin, binary64, up, down, lt, neg, fits, inUnsigned, toUnsigned, whole, ofInt, round, size, span, climb, units, odd}
@@ -15,7 +15,7 @@ use borrow.Author.Tests.{lt-ltb, le-ltb, le-leb, leb-true, ltb-true, ltb-false}
 use Rattle.seconds.specs.Seconds.{wholeNumber, before1970, since1970, secondOf, timestampOf, isSome, isTimestamp, ifTimestamp, timestampOfBits}
 use mathlib.Core.Option.{Option, some, none}
 use Rattle.seconds.specs.declared.TimestampRead.the-variants.{Timestamp, Nothing}
-use lib.Ieee.{toBits, ofBits, isNan}
+use lib.Ieee.{toBits, isNan}
 use lib.Ieee.Bits.{ofBits-toBits}
 use Rattle.seconds.proofs.Whole.{exact}
 

@@ -1,10 +1,9 @@
 -- Demand 3 of opening, next and turn.
 use Prim.Native.Nat.{ℕ}
 use mathlib.Core.Path.{_≡_, refl, sym, ap, _∙_}
-use mathlib.Core.Bool.{true, false, not}
+use mathlib.Core.Bool.{true, false}
 use mathlib.Core.List.{List, [], _∷_, tail}
 use lib.ListN.{length, drop}
-use lib.Dec.{ltb}
 use lib.Ieee.{Float}
 use borrow.Author.Tests.{le-ltb}
 use Rattle.scan.specs.Lines.{Cut}
@@ -14,7 +13,6 @@ use Rattle.network.specs.Prefix.{validPrefix}
 use Rattle.network.specs.declared.NetworkPrefix.{NetworkPrefix}
 use Rattle.network.proofs.Valid.{read-valid}
 use Rattle.plain_reader.specs.Lists.{Each}
-use Rattle.plain_reader.specs.Rules.{nothing, valid}
 use Rattle.plain_reader.specs.Calls.{Call, end}
 use Rattle.plain_reader.specs.Elements.{Readable, yielded, classified}
 use Rattle.plain_reader.specs.Demand.{Demand3}

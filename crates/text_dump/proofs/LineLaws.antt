@@ -3,7 +3,6 @@ use Prim.Native.Nat.{ℕ, _-_, _≤_, _<_}
 use mathlib.Core.Path.{_≡_, refl, sym, ap, subst, _∙_}
 use mathlib.Core.Bool.{Bool, true, false, not, _||_}
 use mathlib.Core.List.{List, [], _∷_, headD, nil≢cons}
-use mathlib.Core.Logic.{inl, inr}
 use native.Mathlib.Omega.{arith}
 use types.Run.{OneOf}
 use denote.Enum.Declared.{tagOf}
@@ -30,33 +29,20 @@ use Rattle.plain_reader.specs.Cursor.{Cursor, to-start}
 use Rattle.plain_reader.specs.Refinement.{Fits-prefix, Fits-line}
 use Rattle.plain_reader.proofs.Fits.{line-keeps}
 use Rattle.text_dump.specs.State.{plain, stored, cursor, moved, turned, validRemembered, spoilt}
-use Rattle.text_dump.specs.Rules.{WithAsns, textOf, said, originAsn, elementOf, rules}
+use Rattle.text_dump.specs.Rules.{WithAsns, textOf, said, originAsn, elementOf}
 use Rattle.text_dump.specs.Next.{stepped, next, atRoute}
 use Rattle.text_dump.specs.declared.Remembered.{Remembered}
 use Rattle.text_dump.specs.declared.Remembered.the-variants.{Nothing, Invalid, Valid}
 use Rattle.text_dump.specs.declared.State.{State}
-use Rattle.text_dump.proofs.StateLaws.{stored-plain, plain-stored, first}
+use Rattle.text_dump.proofs.StateLaws.{stored-plain, plain-stored, first, second}
 use Rattle.text_dump.proofs.RulesLaws.{lines-fit}
 use Rattle.text_dump.proofs.Demand3.{Fits}
 use Rattle.text_dump.proofs.NextLaws as loop
 use Rattle.text_dump.proofs.NextLaws.{Came, Comes-to, stays}
 
--- moving and turning touch the cursor alone, and the last word stands
-module _ (σ : State) (c : Cursor NetworkPrefix) where
-  pub turned-moved : turned (moved σ c) ≡ moved σ (to-start c)
-  turned-moved = ap (λ (m : Plain NetworkPrefix). moved σ (record { at = 0; remembered = m })) (plain-stored (c .remembered))
-
-  pub moved-moved : (d : Cursor NetworkPrefix) → moved (moved σ c) d ≡ moved σ d
-  moved-moved d = refl
-
-  pub moved-turned : moved (turned σ) c ≡ moved σ c
-  moved-turned = refl
-
-  pub rules-moved : rules (moved σ c) ≡ rules σ
-  rules-moved = refl
-
-pub rules-turned : (σ : State) → rules (turned σ) ≡ rules σ
-rules-turned σ = refl
+-- turning touches the cursor alone
+pub turned-moved : (σ : State) (c : Cursor NetworkPrefix) → turned (moved σ c) ≡ moved σ (to-start c)
+turned-moved σ c = ap (λ (m : Plain NetworkPrefix). moved σ (record { at = 0; remembered = m })) (plain-stored (c .remembered))
 
 -- at a part's start the part's length spoils nothing
 pub spoilt-anywhere : (σ : State) (a b : ℕ) → spoilt (turned σ) a ≡ spoilt (turned σ) b
@@ -64,11 +50,6 @@ unfolding spoilt
 spoilt-anywhere σ a b = rw (le-ltb a 0 (omega arith), le-ltb b 0 (omega arith))
 
 -- a state that is not spoilt stays so behind a line: the prefix that a line brings is valid
-second : (a b : Bool) → (a || not b) ≡ false → b ≡ true
-second true b h = let z : _≡_ {A = ℕ} 0 1 = cc in absurd (omega arith)
-second false true h = refl
-second false false h = sym h
-
 fits-there : (m : Remembered) → validRemembered m ≡ true → Fits-prefix Fits (plain m)
 fits-there Nothing h = tt
 fits-there Invalid h = tt
@@ -106,19 +87,12 @@ module _ (σ : State) (a : ℕ) (fine : spoilt (turned σ) a ≡ false) where
         fine-with j b (after-line (plain (σ .remembered)) (said l z))
         (line-keeps Fits (plain (σ .remembered)) (said l z) (subst (λ (w : Line). Fits-line Fits (said l w)) (sym c ∙ h) (lines-fit Fits read-valid σ l)) fits-now)
 
-    pub fine-passed : y ≡ Passed → spoilt (turned (moved σ (record { at = j; remembered = plain (σ .remembered) }))) b ≡ false
-    fine-passed h = fine-behind Passed h
-
     pub fine-wrapped : (p : NetworkPrefix) → y ≡ Wrapped p → spoilt (turned (moved σ (record { at = j; remembered = valid p }))) b ≡ false
     fine-wrapped p h = fine-behind (Wrapped p) h
 
     pub fine-route : (x : PrefixText) (e : RouteEntry) → y ≡ Route e x → (n : Remembered) → plain n ≡ replace (textOf x) (plain (σ .remembered))
         → spoilt (turned (moved σ (record { at = j; remembered = plain n }))) b ≡ false
     fine-route x e h n g = rw g (fine-behind (Route e x) h)
-
--- a valid prefix that is remembered behind a route is the one that it comes under
-pub comes-under : (x : PrefixText) (m n : Remembered) (p : NetworkPrefix) → plain n ≡ replace (textOf x) (plain m) → n ≡ Valid p → replace (textOf x) (plain m) ≡ valid p
-comes-under x m n p g h = sym g ∙ ap plain h
 
 -- what next answers of a line
 pub spoilt-line : (σ : State) (l : List ℕ) (k : ℕ) → spoilt (turned σ) (length l) ≡ true → next (turned σ) l k ≡ (refused 5, turned σ)
@@ -165,16 +139,10 @@ module _ (σ : State) (l : List ℕ) (k : ℕ) (one : lines l ≡ l ∷ []) (fin
     wrapped-line p h = over (Valid p) (loop.wraps (turned σ) l 0 (σ .remembered) begun some (length l) ends y said-here p h)
 
     module _ (x : PrefixText) (e : RouteEntry) (h : y ≡ Route e x) where
-      module _ (n : Remembered) (g : plain n ≡ replace (textOf x) (plain (σ .remembered))) where
-        -- a route without a valid prefix, as an `if let` knows it, and as the arms of a `match` do
-        pub other-route : OneOf (0 ∷ 1 ∷ []) (tagOf the-type n) → next (turned σ) l k ≡ (end, moved σ (record { at = length l; remembered = plain n }))
-        other-route o = over n (loop.passes-route (turned σ) l 0 (σ .remembered) begun some (length l) ends y said-here x e h n g o)
-
-        pub bare-route : n ≡ Nothing → next (turned σ) l k ≡ (end, moved σ (record { at = length l; remembered = plain n }))
-        bare-route f = other-route (rw f (inl refl))
-
-        pub invalid-route : n ≡ Invalid → next (turned σ) l k ≡ (end, moved σ (record { at = length l; remembered = plain n }))
-        invalid-route f = other-route (rw f (inr refl))
+      -- a route without a valid prefix
+      pub other-route : (n : Remembered) → plain n ≡ replace (textOf x) (plain (σ .remembered)) → OneOf (0 ∷ 1 ∷ []) (tagOf the-type n)
+          → next (turned σ) l k ≡ (end, moved σ (record { at = length l; remembered = plain n }))
+      other-route n g o = over n (loop.passes-route (turned σ) l 0 (σ .remembered) begun some (length l) ends y said-here x e h n g o)
 
       module _ (p : NetworkPrefix) (g : replace (textOf x) (plain (σ .remembered)) ≡ valid p) where
         at-route : next (turned σ) l k ≡ stepped (turned σ) (atRoute (turned σ) k p (e, asnsOf (pathOf e l)) (length l))

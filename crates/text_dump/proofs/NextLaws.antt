@@ -26,7 +26,7 @@ use Rattle.path_text.specs.declared.AsnsPut.{AsnsPut}
 use Rattle.path_text.specs.declared.AsnsPut.the-variants.{Wrote, TooFew}
 use Rattle.text_dump_line.specs.declared.Line.{Line}
 use Rattle.text_dump_line.specs.declared.Line.the-variants.{Unreadable as UnreadableLine, Passed, Wrapped, Route}
-use Rattle.plain_reader.specs.Rules.{nothing, invalid, valid, replace}
+use Rattle.plain_reader.specs.Rules.{valid, replace}
 use Rattle.plain_reader.specs.Calls.{Answer, element, end, refused}
 use Rattle.plain_reader.specs.Cursor.{Cursor, next-at}
 use Rattle.plain_reader.proofs.LineLoop as loop

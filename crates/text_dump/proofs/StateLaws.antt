@@ -10,7 +10,6 @@ use lib.Dec.{ltb}
 use borrow.Author.Tests.{ltb-false}
 use Rattle.columns.specs.Columns.{areRising}
 use Rattle.seconds.specs.Seconds.{isTimestamp}
-use Rattle.network.specs.declared.Asn.{Asn}
 use Rattle.network.specs.declared.NetworkPrefix.{NetworkPrefix}
 use Rattle.elem.specs.declared.OptAsn.the-variants.{Known, Nothing as NoAsn}
 use Rattle.text_dump_line.specs.declared.PrefixText.{PrefixText}
@@ -67,6 +66,11 @@ is-spoilt σ n c t v ec et ev = rw (ec, et, ev)
 pub first : (a b : Bool) → (a || b) ≡ false → a ≡ false
 first true b h = absurd (true≢false h)
 first false b h = refl
+
+pub second : (a b : Bool) → (a || not b) ≡ false → b ≡ true
+second true b h = absurd (true≢false h)
+second false true h = refl
+second false false h = absurd (true≢false h)
 
 pub position-inside : (σ : State) (n : ℕ) → spoilt σ n ≡ false → σ .position ≤ n
 unfolding spoilt

@@ -2,7 +2,7 @@
 ghost use mathlib.Core.Path.{_≡_};
 ghost use lib.ListN.{length, take};
 ghost use Rattle.plain_reader.specs.Rules.{replace};
-ghost use Rattle.text_dump.specs.State.{plain, stored, validRemembered, spoilt, turned, moved};
+ghost use Rattle.text_dump.specs.State.{plain, validRemembered, spoilt, turned, moved};
 ghost use Rattle.text_dump.specs.Open.{peerIp, peerAsn, openOf, told as toldOpened};
 ghost use Rattle.text_dump.specs.Rules.{textOf, originAsn, elementOf};
 ghost use Rattle.path_text.specs.Path.{asnsOf};
@@ -19,7 +19,6 @@ use network::IpAddr;
 use network::NetworkPrefix;
 use path_text::AsnsPut;
 use text_dump_header::HeaderRead;
-use text_dump_header::TextDumpHeader;
 use text_dump_line::Line;
 use text_dump_line::PrefixText;
 use text_dump_line::RouteEntry;

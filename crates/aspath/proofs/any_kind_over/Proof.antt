@@ -7,8 +7,6 @@ use Rattle.aspath.specs.Lists.{any}
 use Rattle.aspath.proofs.Lists.{any-more, any-end}
 use Rattle.aspath.proofs.any_kind_over.Statement.{statement}
 use Rattle.aspath.proofs.any_kind_over.Tie as tie
-use Rattle.aspath.proofs.any_kind_over.Reads as reads
-use Rattle.aspath.proofs.any_kind_over.Lts as lts
 use borrow.Author.Needs.{needs}
 
 ruleset laws = (any-end)

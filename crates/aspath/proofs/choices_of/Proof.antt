@@ -1,9 +1,6 @@
 use borrow.Author.Tests.{eq-eqb, ne-eqb}
 use Rattle.aspath.proofs.choices_of.Statement.{statement}
 use Rattle.aspath.proofs.choices_of.Tie as tie
-use Rattle.aspath.proofs.choices_of.Reads as reads
-use Rattle.aspath.proofs.choices_of.Lts as lts
-use borrow.Author.Needs.{needs}
 
 returns : tie.Need-returns
 returns c = simp (eq-eqb _ _ (c .if1 .taken))

@@ -1,15 +1,12 @@
 use mathlib.Core.Path.{_≡_}
-use mathlib.Core.Bool.{false, _||_}
+use mathlib.Core.Bool.{false, _||_, or-assoc, or-false}
 use Prim.Native.Nat.{_-_, _≤_}
 use lib.ListN.{drop}
 use Rattle.aspath.specs.Record.{segmentsOf}
 use Rattle.aspath.specs.Queries.{noRoute, emptySet}
 use Rattle.aspath.proofs.Record.{kind-there, length-there, shape-more, shape-end}
-use Rattle.aspath.proofs.Lists.{or-assoc, or-false}
 use Rattle.aspath.proofs.has_empty_set.Statement.{statement}
 use Rattle.aspath.proofs.has_empty_set.Tie as tie
-use Rattle.aspath.proofs.has_empty_set.Reads as reads
-use Rattle.aspath.proofs.has_empty_set.Lts as lts
 use borrow.Author.Needs.{needs}
 
 ruleset laws = (kind-there, length-there)

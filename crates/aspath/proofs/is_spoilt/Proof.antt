@@ -4,10 +4,6 @@ use Rattle.aspath.proofs.Record.{many-segments, many-numbers, few-kinds
 use borrow.Author.Needs.{needs}
 use Rattle.aspath.proofs.is_spoilt.Statement.{statement}
 use Rattle.aspath.proofs.is_spoilt.Tie as tie
-use Rattle.aspath.proofs.is_spoilt.Reads as reads
-use Rattle.aspath.proofs.is_spoilt.Lts as lts
-use Rattle.aspath.proofs.any_kind_over.Reads as any-kind-over-reads
-use Rattle.aspath.proofs.sum_lengths.Reads as sum-lengths-reads
 
 ruleset laws = (many-segments, many-numbers, few-kinds, few-lengths, few-numbers, kind-over, summed)
 

@@ -3,11 +3,6 @@ use Rattle.aspath.proofs.Queries.{no-variation, some-variation}
 use borrow.Author.Needs.{needs}
 use Rattle.aspath.proofs.num_route_variations.Statement.{statement}
 use Rattle.aspath.proofs.num_route_variations.Tie as tie
-use Rattle.aspath.proofs.num_route_variations.Reads as reads
-use Rattle.aspath.proofs.num_route_variations.Lts as lts
-use Rattle.aspath.proofs.has_empty_set.Reads as has-empty-set-reads
-use Rattle.aspath.proofs.is_spoilt.Reads as is-spoilt-reads
-use Rattle.aspath.proofs.product_of.Reads as product-of-reads
 
 ruleset laws = (passed, no-variation, some-variation)
 

@@ -7,9 +7,6 @@ use Rattle.aspath.proofs.Record.{kind-there, length-there}
 use Rattle.aspath.proofs.Queries.{choice-there, variations-start, variations-more, variations-fit, variations-over, variations-end}
 use Rattle.aspath.proofs.product_of.Statement.{statement}
 use Rattle.aspath.proofs.product_of.Tie as tie
-use Rattle.aspath.proofs.product_of.Reads as reads
-use Rattle.aspath.proofs.product_of.Lts as lts
-use Rattle.aspath.proofs.choices_of.Reads as choices-of-reads
 use borrow.Author.Needs.{needs}
 
 ruleset laws = (kind-there, length-there, choice-there, variations-start, variations-more, variations-fit, variations-over, variations-end)

@@ -8,10 +8,6 @@ use Rattle.aspath.proofs.Record.{spoilt-path, passed, kind-there, lengt
 use Rattle.aspath.proofs.Queries.{route-len-more, route-len-fits, route-len-end}
 use Rattle.aspath.proofs.route_len.Statement.{statement}
 use Rattle.aspath.proofs.route_len.Tie as tie
-use Rattle.aspath.proofs.route_len.Reads as reads
-use Rattle.aspath.proofs.route_len.Lts as lts
-use Rattle.aspath.proofs.is_spoilt.Reads as is-spoilt-reads
-use Rattle.aspath.proofs.segment_route_len.Reads as segment-route-len-reads
 use borrow.Author.Needs.{needs}
 
 ruleset laws = (passed, kind-there, length-there, route-len-more, route-len-fits, route-len-end)

@@ -1,5 +1,4 @@
-use mathlib.Core.Path.{_≡_, refl}
-use native.Mathlib.Nat.{zero-add}
+use mathlib.Core.Path.{_≡_}
 use native.Mathlib.Omega.{arith}
 use Prim.Native.Nat.{_≤_, _-_, _+_, _*_}
 use lib.ListN.{length, drop}
@@ -7,8 +6,6 @@ use Rattle.aspath.specs.Lists.{sum}
 use Rattle.aspath.proofs.Lists.{sum-more, sum-end}
 use Rattle.aspath.proofs.sum_lengths.Statement.{statement}
 use Rattle.aspath.proofs.sum_lengths.Tie as tie
-use Rattle.aspath.proofs.sum_lengths.Reads as reads
-use Rattle.aspath.proofs.sum_lengths.Lts as lts
 use borrow.Author.Needs.{needs}
 
 ruleset laws = (sum-end)

@@ -5,12 +5,6 @@ use Rattle.aspath.proofs.Record.{spoilt-path}
 use Rattle.aspath_equivalence.proofs.Routing.{first-spoilt, second-spoilt, kept-first, kept-second, left-as-it-was, refused-none, unspoilt-some, counted-some, both-left, kinds-left, lengths-left, numbers-left, answered}
 use Rattle.aspath_equivalence.proofs.has_equivalent_routing.Statement.{statement}
 use Rattle.aspath_equivalence.proofs.has_equivalent_routing.Tie as tie
-use Rattle.aspath_equivalence.proofs.has_equivalent_routing.Reads as reads
-use Rattle.aspath_equivalence.proofs.has_equivalent_routing.Lts as lts
-use Rattle.aspath.proofs.is_spoilt.Reads as is-spoilt-reads
-use Rattle.aspath_normal.proofs.dedup_coalesce.Reads as dedup-coalesce-reads
-use Rattle.aspath_equivalence.proofs.same_u32.Reads as same-u32-reads
-use Rattle.aspath_equivalence.proofs.same_u8.Reads as same-u8-reads
 
 is-spoilt-requires : tie.Need-is-spoilt-requires
 is-spoilt-requires c κs = search needs

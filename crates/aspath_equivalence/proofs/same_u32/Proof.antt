@@ -5,8 +5,6 @@ use Rattle.aspath_equivalence.specs.Routing.{sameNumbers}
 use Rattle.aspath_equivalence.proofs.Same.{lengths-differ, number-differs, number-same, all-same}
 use Rattle.aspath_equivalence.proofs.same_u32.Statement.{statement}
 use Rattle.aspath_equivalence.proofs.same_u32.Tie as tie
-use Rattle.aspath_equivalence.proofs.same_u32.Reads as reads
-use Rattle.aspath_equivalence.proofs.same_u32.Lts as lts
 use borrow.Author.Needs.{needs}
 
 ruleset laws = (lengths-differ, number-differs, number-same, all-same)

@@ -4,10 +4,6 @@ use mathlib.Core.Path.{sym}
 use Rattle.aspath_normal.proofs.Answers.{refused, unchanged, kinds-there, lengths-there, fit-entries, coalesced-counts, coalesced-kinds, coalesced-lengths}
 use Rattle.aspath_normal.proofs.coalesce.Statement.{statement}
 use Rattle.aspath_normal.proofs.coalesce.Tie as tie
-use Rattle.aspath_normal.proofs.coalesce.Reads as reads
-use Rattle.aspath_normal.proofs.coalesce.Lts as lts
-use Rattle.aspath.proofs.is_spoilt.Reads as is-spoilt-reads
-use Rattle.aspath_normal.proofs.coalesce_entries.Reads as coalesce-entries-reads
 
 ruleset laws = (refused, unchanged, kinds-there, lengths-there, fit-entries, coalesced-counts, coalesced-kinds, coalesced-lengths)
 

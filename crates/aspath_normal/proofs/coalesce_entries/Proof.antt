@@ -4,9 +4,6 @@ use lib.ListN.{length, length-set}
 use Rattle.aspath_normal.proofs.Merging.{Merging, at-most-one, no-overflow, turned, coalesced, first-entry, no-entries}
 use Rattle.aspath_normal.proofs.coalesce_entries.Statement.{statement}
 use Rattle.aspath_normal.proofs.coalesce_entries.Tie as tie
-use Rattle.aspath_normal.proofs.coalesce_entries.Reads as reads
-use Rattle.aspath_normal.proofs.coalesce_entries.Lts as lts
-use Rattle.aspath_normal.proofs.merge.Reads as merge-reads
 use borrow.Author.Needs.{needs}
 
 ruleset laws = (turned, coalesced, first-entry, no-entries)

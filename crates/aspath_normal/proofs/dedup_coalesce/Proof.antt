@@ -5,10 +5,6 @@ use Rattle.aspath_normal.specs.Normal.{dedupCoalesce}
 use Rattle.aspath_normal.proofs.Answers.{refused, unchanged, kinds-there, lengths-there, numbers-there, fit, normal-counts, normal-kinds, normal-lengths, normal-numbers}
 use Rattle.aspath_normal.proofs.dedup_coalesce.Statement.{statement}
 use Rattle.aspath_normal.proofs.dedup_coalesce.Tie as tie
-use Rattle.aspath_normal.proofs.dedup_coalesce.Reads as reads
-use Rattle.aspath_normal.proofs.dedup_coalesce.Lts as lts
-use Rattle.aspath.proofs.is_spoilt.Reads as is-spoilt-reads
-use Rattle.aspath_normal.proofs.normalise.Reads as normalise-reads
 
 is-spoilt-requires : tie.Need-is-spoilt-requires
 is-spoilt-requires c κs = search needs

@@ -5,9 +5,6 @@ use lib.ListN.{length-set}
 use Rattle.aspath_normal.proofs.Deduping.{none-left, first-kept, all-down}
 use Rattle.aspath_normal.proofs.dedup_down.Statement.{statement}
 use Rattle.aspath_normal.proofs.dedup_down.Tie as tie
-use Rattle.aspath_normal.proofs.dedup_down.Reads as reads
-use Rattle.aspath_normal.proofs.dedup_down.Lts as lts
-use Rattle.aspath_normal.proofs.dedup_from.Reads as dedup-from-reads
 
 ruleset laws = (none-left, first-kept, all-down)
 

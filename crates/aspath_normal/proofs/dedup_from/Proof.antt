@@ -4,8 +4,6 @@ use lib.ListN.{length, length-set}
 use Rattle.aspath_normal.proofs.Deduping.{Deduping, none-passed, equal-dropped, other-kept, all-passed}
 use Rattle.aspath_normal.proofs.dedup_from.Statement.{statement}
 use Rattle.aspath_normal.proofs.dedup_from.Tie as tie
-use Rattle.aspath_normal.proofs.dedup_from.Reads as reads
-use Rattle.aspath_normal.proofs.dedup_from.Lts as lts
 use borrow.Author.Needs.{needs}
 
 ruleset laws = (none-passed, equal-dropped, other-kept, all-passed)

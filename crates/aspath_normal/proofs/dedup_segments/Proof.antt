@@ -4,9 +4,6 @@ use lib.ListN.{length, length-set}
 use Rattle.aspath_normal.proofs.Compacting.{Compacting, none-compacted, segment-end, segment-order, gap-of-zeros, no-more, compacted, all-compacted}
 use Rattle.aspath_normal.proofs.dedup_segments.Statement.{statement}
 use Rattle.aspath_normal.proofs.dedup_segments.Tie as tie
-use Rattle.aspath_normal.proofs.dedup_segments.Reads as reads
-use Rattle.aspath_normal.proofs.dedup_segments.Lts as lts
-use Rattle.aspath_normal.proofs.dedup_down.Reads as dedup-down-reads
 use borrow.Author.Needs.{needs}
 
 ruleset laws = (none-compacted, segment-end, segment-order, gap-of-zeros, no-more, compacted, all-compacted)

@@ -2,9 +2,6 @@ use Rattle.aspath_normal.proofs.Entries.{step-joined, step-over, step-d
 use borrow.Author.Needs.{needs}
 use Rattle.aspath_normal.proofs.merge.Statement.{statement}
 use Rattle.aspath_normal.proofs.merge.Tie as tie
-use Rattle.aspath_normal.proofs.merge.Reads as reads
-use Rattle.aspath_normal.proofs.merge.Lts as lts
-use Rattle.aspath_normal.proofs.is_sequence.Reads as is-sequence-reads
 
 ruleset laws = (step-joined, step-over, step-dropped, step-apart)
 

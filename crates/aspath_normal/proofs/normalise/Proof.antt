@@ -4,12 +4,6 @@ use lib.Seq.{length-take-le}
 use Rattle.aspath_normal.proofs.Whole.{fit₃, fit₄, segments-there, numbers-there, normal-in}
 use Rattle.aspath_normal.proofs.normalise.Statement.{statement}
 use Rattle.aspath_normal.proofs.normalise.Tie as tie
-use Rattle.aspath_normal.proofs.normalise.Reads as reads
-use Rattle.aspath_normal.proofs.normalise.Lts as lts
-use Rattle.aspath_normal.proofs.coalesce_entries.Reads as coalesce-entries-reads
-use Rattle.aspath_normal.proofs.dedup_segments.Reads as dedup-segments-reads
-use Rattle.aspath_normal.proofs.single_sets.Reads as single-sets-reads
-use Rattle.aspath_normal.proofs.sort_sets.Reads as sort-sets-reads
 
 sort-sets-requires : tie.Need-sort-sets-requires
 sort-sets-requires c κs = search needs

@@ -2,9 +2,6 @@ use Rattle.aspath_normal.proofs.Sets.{kind-kept, set-above, kind-below,
 use borrow.Author.Needs.{needs}
 use Rattle.aspath_normal.proofs.single_kind.Statement.{statement}
 use Rattle.aspath_normal.proofs.single_kind.Tie as tie
-use Rattle.aspath_normal.proofs.single_kind.Reads as reads
-use Rattle.aspath_normal.proofs.single_kind.Lts as lts
-use Rattle.aspath_normal.proofs.is_sequence.Reads as is-sequence-reads
 
 ruleset laws = (kind-kept, set-above, kind-below, kind-set)
 

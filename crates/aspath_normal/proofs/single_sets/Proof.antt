@@ -4,9 +4,6 @@ use lib.ListN.{length, length-set}
 use Rattle.aspath_normal.proofs.Sets.{Singling, none-single, singled, all-single}
 use Rattle.aspath_normal.proofs.single_sets.Statement.{statement}
 use Rattle.aspath_normal.proofs.single_sets.Tie as tie
-use Rattle.aspath_normal.proofs.single_sets.Reads as reads
-use Rattle.aspath_normal.proofs.single_sets.Lts as lts
-use Rattle.aspath_normal.proofs.single_kind.Reads as single-kind-reads
 use borrow.Author.Needs.{needs}
 
 ruleset laws = (none-single, singled, all-single)

@@ -4,10 +4,6 @@ use lib.ListN.{length}
 use Rattle.aspath_normal.proofs.Sets.{SortingSets, none-sorted, set-end, sequence-passed, set-sorted, all-sorted}
 use Rattle.aspath_normal.proofs.sort_sets.Statement.{statement}
 use Rattle.aspath_normal.proofs.sort_sets.Tie as tie
-use Rattle.aspath_normal.proofs.sort_sets.Reads as reads
-use Rattle.aspath_normal.proofs.sort_sets.Lts as lts
-use Rattle.aspath_normal.proofs.is_sequence.Reads as is-sequence-reads
-use Rattle.sort.proofs.sort_u32.Reads as sort-u32-reads
 use borrow.Author.Needs.{needs}
 
 ruleset laws = (none-sorted, set-end, sequence-passed, set-sorted, all-sorted)

@@ -8,9 +8,6 @@ use Rattle.aspath_routes.specs.Joined.{joined}
 use Rattle.aspath_routes.proofs.Joined.{joined-more, joined-end, joined-small, sum-fits}
 use Rattle.aspath_routes.proofs.count_joined.Statement.{statement}
 use Rattle.aspath_routes.proofs.count_joined.Tie as tie
-use Rattle.aspath_routes.proofs.count_joined.Reads as reads
-use Rattle.aspath_routes.proofs.count_joined.Lts as lts
-use Rattle.aspath_routes.proofs.count_runs.Reads as count-runs-reads
 use borrow.Author.Needs.{needs}
 
 ruleset laws = (length-there, place-start, place-next, numbers-end, place-fits, length-fits, end-fits, joined-more, joined-end, joined-small, sum-fits)

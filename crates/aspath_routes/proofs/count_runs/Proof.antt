@@ -5,8 +5,6 @@ use Rattle.aspath_routes.specs.Runs.{after, runs}
 use Rattle.aspath_routes.proofs.Runs.{count-none, count-first, count-end, count-repeat, count-new}
 use Rattle.aspath_routes.proofs.count_runs.Statement.{statement}
 use Rattle.aspath_routes.proofs.count_runs.Tie as tie
-use Rattle.aspath_routes.proofs.count_runs.Reads as reads
-use Rattle.aspath_routes.proofs.count_runs.Lts as lts
 use borrow.Author.Needs.{needs}
 
 ruleset laws = (count-none, count-first, count-end, count-repeat, count-new)

@@ -1,15 +1,12 @@
 use mathlib.Core.Path.{_≡_}
-use mathlib.Core.Bool.{true, _&&_}
+use mathlib.Core.Bool.{true, _&&_, and-assoc, and-true}
 use Prim.Native.Nat.{_-_, _≤_}
 use lib.ListN.{drop}
 use Rattle.aspath.specs.Record.{segmentsOf}
 use Rattle.aspath.proofs.Record.{kind-there, length-there, shape-more, shape-end}
 use Rattle.aspath_routes.specs.Joined.{simple, allSimple}
-use Rattle.aspath_routes.proofs.Joined.{and-assoc, and-true}
 use Rattle.aspath_routes.proofs.is_simple.Statement.{statement}
 use Rattle.aspath_routes.proofs.is_simple.Tie as tie
-use Rattle.aspath_routes.proofs.is_simple.Reads as reads
-use Rattle.aspath_routes.proofs.is_simple.Lts as lts
 use borrow.Author.Needs.{needs}
 
 ruleset laws = (kind-there, length-there)

@@ -1,10 +1,7 @@
-use native.Mathlib.Omega.{arith}
 use Rattle.aspath_routes.proofs.Write.{left-other, left-empty, left-set}
 use borrow.Author.Needs.{needs}
 use Rattle.aspath_routes.proofs.left_of.Statement.{statement}
 use Rattle.aspath_routes.proofs.left_of.Tie as tie
-use Rattle.aspath_routes.proofs.left_of.Reads as reads
-use Rattle.aspath_routes.proofs.left_of.Lts as lts
 
 ruleset laws = (left-other, left-empty, left-set)
 

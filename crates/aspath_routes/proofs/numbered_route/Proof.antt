@@ -2,10 +2,6 @@ use Rattle.aspath_routes.proofs.Answers.{told-count, route-spoilt, rout
 use borrow.Author.Needs.{needs}
 use Rattle.aspath_routes.proofs.numbered_route.Statement.{statement}
 use Rattle.aspath_routes.proofs.numbered_route.Tie as tie
-use Rattle.aspath_routes.proofs.numbered_route.Reads as reads
-use Rattle.aspath_routes.proofs.numbered_route.Lts as lts
-use Rattle.aspath.proofs.num_route_variations.Reads as num-route-variations-reads
-use Rattle.aspath_routes.proofs.route_of.Reads as route-of-reads
 
 ruleset laws = (told-count, route-spoilt, route-too-many)
 

@@ -2,10 +2,6 @@ use Rattle.aspath_routes.proofs.Answers.{counted-sound, route-beyond, r
 use borrow.Author.Needs.{needs}
 use Rattle.aspath_routes.proofs.route_of.Statement.{statement}
 use Rattle.aspath_routes.proofs.route_of.Tie as tie
-use Rattle.aspath_routes.proofs.route_of.Reads as reads
-use Rattle.aspath_routes.proofs.route_of.Lts as lts
-use Rattle.aspath.proofs.route_len.Reads as route-len-reads
-use Rattle.aspath_routes.proofs.write_route.Reads as write-route-reads
 
 ruleset laws = (counted-sound, route-beyond, route-never, route-few, route-written)
 

@@ -3,12 +3,6 @@ use Rattle.aspath_routes.proofs.Joined.{vec-spoilt, vec-mixed, vec-empt
 use borrow.Author.Needs.{needs}
 use Rattle.aspath_routes.proofs.to_u32_vec_opt.Statement.{statement}
 use Rattle.aspath_routes.proofs.to_u32_vec_opt.Tie as tie
-use Rattle.aspath_routes.proofs.to_u32_vec_opt.Reads as reads
-use Rattle.aspath_routes.proofs.to_u32_vec_opt.Lts as lts
-use Rattle.aspath.proofs.is_spoilt.Reads as is-spoilt-reads
-use Rattle.aspath_routes.proofs.count_joined.Reads as count-joined-reads
-use Rattle.aspath_routes.proofs.is_simple.Reads as is-simple-reads
-use Rattle.aspath_routes.proofs.write_joined.Reads as write-joined-reads
 
 ruleset laws = (passed, vec-spoilt, vec-mixed, vec-empty, vec-few, vec-written)
 

@@ -9,9 +9,6 @@ use Rattle.aspath_routes.specs.Joined.{joined}
 use Rattle.aspath_routes.proofs.Joined.{write-more, write-last}
 use Rattle.aspath_routes.proofs.write_joined.Statement.{statement}
 use Rattle.aspath_routes.proofs.write_joined.Tie as tie
-use Rattle.aspath_routes.proofs.write_joined.Reads as reads
-use Rattle.aspath_routes.proofs.write_joined.Lts as lts
-use Rattle.aspath_routes.proofs.write_runs.Reads as write-runs-reads
 use borrow.Author.Needs.{needs}
 
 ruleset laws = (all-left, length-there, place-start, place-next, numbers-end, place-fits, length-fits, end-fits, write-more, write-last)

@@ -2,8 +2,6 @@ use Rattle.output.proofs.Output.{byte-written, no-room}
 use borrow.Author.Needs.{needs}
 use Rattle.aspath_routes.proofs.write_number.Statement.{statement}
 use Rattle.aspath_routes.proofs.write_number.Tie as tie
-use Rattle.aspath_routes.proofs.write_number.Reads as reads
-use Rattle.aspath_routes.proofs.write_number.Lts as lts
 
 ruleset laws = (byte-written, no-room)
 

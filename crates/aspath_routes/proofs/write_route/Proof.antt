@@ -9,10 +9,6 @@ use Rattle.aspath_routes.specs.Routes.{numbered}
 use Rattle.aspath_routes.proofs.Write.{route-more, route-end}
 use Rattle.aspath_routes.proofs.write_route.Statement.{statement}
 use Rattle.aspath_routes.proofs.write_route.Tie as tie
-use Rattle.aspath_routes.proofs.write_route.Reads as reads
-use Rattle.aspath_routes.proofs.write_route.Lts as lts
-use Rattle.aspath_routes.proofs.left_of.Reads as left-of-reads
-use Rattle.aspath_routes.proofs.write_taken.Reads as write-taken-reads
 use borrow.Author.Needs.{needs}
 
 ruleset laws = (all-left, kind-there, length-there, place-start, place-next, numbers-end, place-fits, length-fits, end-fits, route-more, route-end)

@@ -6,9 +6,6 @@ use Rattle.aspath_routes.specs.Runs.{after}
 use Rattle.aspath_routes.proofs.Runs.{write-none, write-first, write-end, write-repeat, write-new}
 use Rattle.aspath_routes.proofs.write_runs.Statement.{statement}
 use Rattle.aspath_routes.proofs.write_runs.Tie as tie
-use Rattle.aspath_routes.proofs.write_runs.Reads as reads
-use Rattle.aspath_routes.proofs.write_runs.Lts as lts
-use Rattle.aspath_routes.proofs.write_number.Reads as write-number-reads
 use borrow.Author.Needs.{needs}
 
 ruleset laws = (all-left, write-none, write-first, write-end, write-repeat, write-new)

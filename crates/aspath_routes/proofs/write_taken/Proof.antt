@@ -1,12 +1,7 @@
-use native.Mathlib.Omega.{arith}
 use Rattle.aspath_routes.proofs.Write.{taken-sequence, taken-none, taken-empty, taken-choice, choice-inside}
 use borrow.Author.Needs.{needs}
 use Rattle.aspath_routes.proofs.write_taken.Statement.{statement}
 use Rattle.aspath_routes.proofs.write_taken.Tie as tie
-use Rattle.aspath_routes.proofs.write_taken.Reads as reads
-use Rattle.aspath_routes.proofs.write_taken.Lts as lts
-use Rattle.aspath_routes.proofs.write_number.Reads as write-number-reads
-use Rattle.aspath_routes.proofs.write_runs.Reads as write-runs-reads
 
 ruleset laws = (taken-sequence, taken-none, taken-empty, taken-choice, choice-inside)
 

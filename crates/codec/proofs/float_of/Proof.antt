@@ -1,14 +1,13 @@
 -- `codec::float_of` meets its contract. Assumes nothing.
 use lib.Ieee.{div, ofBits}
-use Rattle.seconds.proofs.Bits.{of-number}
-use Rattle.codec.proofs.Reading.{of-nan}
+use Rattle.seconds.proofs.Bits.{bits-nan, of-number}
 use borrow.Author.Needs.{needs}
 use Rattle.codec.proofs.float_of.Statement.{statement}
 use Rattle.codec.proofs.float_of.Tie as tie
 
 returns : tie.Need-returns
 unfolding div ofBits
-returns c = of-nan _ (c .if1 .taken)
+returns c = bits-nan _ (c .if1 .taken)
 
 float-from-bits-result : tie.Need-float-from-bits-result
 float-from-bits-result c = of-number _ (c .if1 .left)

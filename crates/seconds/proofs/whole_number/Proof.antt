@@ -1,10 +1,9 @@
 -- `seconds::whole_number` meets its contract: x is the whole number n exactly where its bits are those of n's float.
 -- Assumes nothing.
 use mathlib.Core.Path.{sym, subst}
-use Prim.Native.Nat.{_≤_, _<_, _^_}
 use native.Mathlib.Omega.{arith}
 use lib.Dec.{T}
-use lib.Ieee.{Float, binary64, fits, inUnsigned, toUnsigned, lt, ofBits, neg}
+use lib.Ieee.{binary64, fits, inUnsigned, toUnsigned, ofBits, neg}
 use Rattle.seconds.proofs.Whole.{no-nan, whole-no-nan, exact, not-over, not-under, no, found, other-bits, too-large}
 use Rattle.seconds.proofs.whole_number.Statement.{statement}
 use Rattle.seconds.proofs.whole_number.Tie as tie

@@ -5,14 +5,6 @@ use borrow.Author.Needs.{needs}
 use Rattle.text_dump.proofs.NextLaws.{Came, comes, line-order, line-inside, line-less, passes, wraps, passes-route, refuses-5, in-part, refuses-6, says-end, at-route}
 use Rattle.text_dump.proofs.State.next.Statement.{statement}
 use Rattle.text_dump.proofs.State.next.Tie as tie
-use Rattle.text_dump.proofs.State.next.Reads as reads
-use Rattle.text_dump.proofs.State.next.Lts as lts
-use Rattle.scan.proofs.line_end.Reads as line-end-reads
-use Rattle.text_dump.proofs.State.is_spoilt.Reads as is-spoilt-reads
-use Rattle.text_dump.proofs.State.moved.Reads as moved-reads
-use Rattle.text_dump.proofs.State.yielded.Reads as yielded-reads
-use Rattle.text_dump.proofs.replaced.Reads as replaced-reads
-use Rattle.text_dump_line.proofs.line_of.Reads as line-of-reads
 
 ruleset laws = (refl, comes, line-order, line-inside, line-less, passes, wraps, passes-route, refuses-5, in-part, refuses-6, says-end, at-route)
 
