@@ -1,14 +1,14 @@
 -- Laws of the first and the last number of a path.
 use mathlib.Core.Path.{_≡_, refl, sym, ap, _∙_}
 use mathlib.Core.List.{List, [], _∷_, _++_, head?, getLast?, append-nil}
-use mathlib.Core.Bool.{Bool, true, false, cond, false≢true, _&&_, _||_}
-use mathlib.Core.Option.{Option, some, none}
-use Prim.Native.Nat.{ℕ, zero, suc, _+_, _-_, _≤_, _<_}
+use mathlib.Core.Bool.{Bool, true, false, false≢true, _&&_, _||_}
+use mathlib.Core.Option.{some}
+use Prim.Native.Nat.{ℕ, zero, suc, _+_, _-_, _<_}
 use native.Mathlib.Nat.{pos-of-ne-zero}
 use native.Mathlib.Omega.{arith}
-use lib.ListN.{length, getD, take, length-append, List·getD-append}
+use lib.ListN.{length, getD, length-append, List·getD-append}
 use lib.Seq.{getD-take}
-use lib.Dec.{ltb, eqb}
+use lib.Dec.{eqb}
 use Rattle.aspath.specs.Lists.{foldMap}
 use Rattle.aspath.specs.Record.{Segment, spoilt, segmentsOf, path, numbersOf}
 use Rattle.aspath_numbers.specs.Numbers.{single, originOf, originAnswer, collectorOf, collectorAnswer}

@@ -1,6 +1,6 @@
 -- Each answer of `daysOf`, from the tests that lead to it. Assumes nothing.
-use mathlib.Core.Path.{_≡_, refl, sym, ap, _∙_}
-use mathlib.Core.Bool.{Bool, true, false, cond, not, _&&_, _||_}
+use mathlib.Core.Path.{_≡_, sym}
+use mathlib.Core.Bool.{Bool}
 use Prim.Native.Nat.{ℕ, _+_, _-_, _≤_, _<_}
 use borrow.Author.Tests.{le-leb, lt-leb}
 use Rattle.calendar.specs.Calendar.{isLeap, yearLength, monthLength, total, daysOf}

@@ -1,11 +1,11 @@
 -- The years: the count meets the rule of the table, and it repeats every 400 years. Assumes nothing.
 use mathlib.Core.Path.{_≡_, refl, sym, ap, _∙_}
-use mathlib.Core.Bool.{Bool, true, false, cond, not, _&&_, _||_}
-use Prim.Native.Nat.{ℕ, zero, suc, _+_, _*_, _/_, _%_, _≤_, _<_}
+use mathlib.Core.Bool.{Bool, true, false, cond}
+use Prim.Native.Nat.{ℕ, zero, suc, _+_, _*_, _/_, _%_, _≤_}
 use native.Mathlib.Nat.{zero-mul, zero-add}
 use native.Mathlib.Omega.{arith}
-use lib.Dec.{eqb, lit≤}
-use Rattle.calendar.specs.Calendar.{isLeap, yearLength, monthLength, total, one, entry}
+use lib.Dec.{lit≤}
+use Rattle.calendar.specs.Calendar.{isLeap, yearLength, total, one, entry}
 
 -- 01's rule of the table's entries is the count of the days
 pub entry-counts : (y : ℕ) → entry y ≡ total yearLength y

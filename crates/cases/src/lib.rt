@@ -8,7 +8,7 @@
 // (`put`, `put_hex`, `put_decimal`) and has it counted (`count`); see `text_vectors`.
 use libc::STDOUT_FILENO;
 ghost use mathlib.Core.Path.{_≡_};
-ghost use Prim.Native.Nat.{_<_, _≤_};
+ghost use Prim.Native.Nat.{_<_};
 ghost use lib.ListN.{length};
 ghost use Rattle.io.specs.Counts.{Counts};
 ghost use Rattle.scan.specs.Lists.{endWhile};

@@ -2,7 +2,7 @@
 use Prim.Native.Nat.{ℕ, zero, suc, _-_}
 use mathlib.Core.Bool.{Bool, true, false, cond, _&&_}
 use mathlib.Core.List.{List, [], _∷_}
-use lib.ListN.{length, take, drop}
+use lib.ListN.{length, drop}
 use lib.Dec.{eqb, ltb}
 use Rattle.scan.specs.Ascii.{ascii}
 use Rattle.scan.specs.Search.{equal}

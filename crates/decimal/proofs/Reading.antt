@@ -11,7 +11,7 @@ use lib.Dec.{ltb}
 use mir.Syntax.{w64}
 use mir.Val.{Fits}
 use Rattle.decimal.proofs.Power.{power-small, digit-behind}
-use Rattle.decimal.proofs.Laws.{none-some, behind-step, behind-end, too-big, digits-bound}
+use Rattle.decimal.proofs.Laws.{none-some, behind-step, behind-end, too-big}
 use borrow.Author.Tests.{le-ltb, lt-ltb, lt-leb, le-leb, eq-eqb, ne-eqb, ltb-false}
 use mathlib.Core.Option.{Option, some, none}
 use Rattle.decimal.specs.Decimal.{behind, digits, unsigned, below, as64, as32, readDigits, readU64}
@@ -129,12 +129,3 @@ module _ (m : Option ℕ) (r : U64Read) (e : r ≡ as64 (below (2 ^ 64) m)) wher
 
   pub large32 : (n : ℕ) → r ≡ Number n → 2 ^ 32 ≤ n → Nothing32 ≡ as32 (below (2 ^ 32) m)
   large32 n f h = simp (read-number n f, le-ltb n (2 ^ 32) h)
-
--- up to 19 bytes of which no number was read are no digits
-pub few-nothing : (s : List ℕ) (r : U64Read) → r ≡ readDigits s → r ≡ Nothing → length s ≤ 19 → digits s ≡ none
-few-nothing s r e f h = go (digits s) refl (read-nothing (digits s) r e f)
-  where
-    go : (m : Option ℕ) → digits s ≡ m → below (2 ^ 64) m ≡ none → m ≡ none
-    go (some n) d b =
-        let l : n < 2 ^ 64 = omega (arith, digits-bound n s d, power-small (length s) h) in absurd (none-some (sym (rw (lt-ltb n (2 ^ 64) l) at b)))
-    go none d b = refl

@@ -1,14 +1,14 @@
 -- Laws of an octet and of four of them at the front of a text.
 use Prim.Native.Nat.{ℕ, suc, _+_, _-_, _*_, _%_, _≤_, _<_}
-use mathlib.Core.Path.{_≡_, refl, ap, _∙_}
-use mathlib.Core.Bool.{Bool, true, false, cond}
+use mathlib.Core.Path.{_≡_, ap, _∙_}
+use mathlib.Core.Bool.{true}
 use mathlib.Core.List.{List, [], _∷_}
 use mathlib.Core.Option.{some}
 use native.Mathlib.Numerals.{add-one}
 use native.Mathlib.Omega.{arith}
 use lib.ListN.{length, getD}
 use lib.Seq.{slice, slice-empty, slice-cons}
-use borrow.Author.Tests.{le-leb, lt-leb, lt-ltb, ne-eqb}
+use borrow.Author.Tests.{le-leb, lt-ltb, ne-eqb}
 use Rattle.decimal.specs.Decimal.{isDigit, behind, digits}
 use Rattle.decimal.proofs.Laws.{digit-high}
 use Rattle.ipv4.specs.Ipv4.{octet}

@@ -14,7 +14,7 @@ use Rattle.network.specs.Prefix.{lastPlace, lengthOf, lengthFor, withLen
 use Rattle.network.specs.declared.IpAddr.{IpAddr}
 use Rattle.network.specs.declared.IpAddr.the-variants.{V4, V6}
 use Rattle.network.specs.declared.NetworkPrefix.{NetworkPrefix}
-use Rattle.network.specs.declared.PrefixRead.the-variants.{Prefix, Nothing}
+use Rattle.network.specs.declared.PrefixRead.the-variants.{Prefix}
 
 -- a number, if there is one, is at most m; a prefix, if there is one, is valid
 abbrev AtMost : ℕ → Option ℕ → Type 0

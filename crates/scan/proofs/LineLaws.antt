@@ -7,7 +7,7 @@ use native.Mathlib.Omega.{arith}
 use lib.ListN.{length, getD, take, drop, length-append, length-take, length-drop, take-append-drop, drop-of-length-le}
 use lib.Seq.{take-at, drop-drop}
 use native.Mathlib.Nat.{add-zero, add-assoc}
-use lib.Dec.{leb, eqb}
+use lib.Dec.{leb}
 use borrow.Author.Tests.{eq-eqb, ne-eqb, eqb-true, eqb-false, leb-true, leb-false}
 use Rattle.scan.specs.Lists.{onto, anyOf, takeWhile, dropWhile, endWhile}
 use Rattle.scan.specs.Lines.{isFeed, notFeed, lines, lineEnd, Line-at, Cut, Cuts}
@@ -222,6 +222,3 @@ line-alone (b ∷ s) l ls e = go (isFeed b) refl (lines s) (line-alone s) e
     go true f r ih e = rw (← head-eq-of-cons-eq e) (short (isFeed b))
     go false f [] ih e = rw (← head-eq-of-cons-eq e) (short (isFeed b))
     go false f (w ∷ k) ih e = rw (← head-eq-of-cons-eq e) (rw (f, ih w k refl))
-
-pub lineEnd-alone : (t : List ℕ) (i e : ℕ) → i < length t → e ≡ lineEnd t i → lines (take (e - i) (drop i t)) ≡ take (e - i) (drop i t) ∷ []
-lineEnd-alone t i e h q = line-alone (drop i t) (take (e - i) (drop i t)) (lines (drop e t)) (rw q (line-at t i h))

@@ -2,7 +2,6 @@
 use libc::STDIN_FILENO;
 use libc::STDOUT_FILENO;
 use psv_stream::Phase;
-use psv_stream::Ran;
 
 // What is kept from turn to turn: the phase, how many bytes of the input are there, whether more are wanted, and whether there are no more.
 struct Turn {

@@ -1,9 +1,9 @@
 -- Laws of the preamble's lines.
-use Prim.Native.Nat.{ℕ, _+_, _-_, _≤_, _<_}
-use mathlib.Core.Path.{_≡_, refl, sym, ap, _∙_}
-use mathlib.Core.Bool.{Bool, true, false, cond, not}
-use mathlib.Core.List.{List, [], _∷_}
-use mathlib.Core.Option.{Option, some, none, Option·getD, Option·map, bind}
+use Prim.Native.Nat.{ℕ, _+_, _-_, _≤_}
+use mathlib.Core.Path.{_≡_, sym, ap, _∙_}
+use mathlib.Core.Bool.{Bool, true, false, not}
+use mathlib.Core.List.{List}
+use mathlib.Core.Option.{some, none, bind}
 use native.Mathlib.Omega.{arith}
 use lib.ListN.{length, take, drop, length-take, length-drop}
 use lib.Seq.{take-all, drop-drop}
@@ -14,7 +14,7 @@ use Rattle.scan.specs.declared.Found.{Found}
 use Rattle.scan.specs.declared.Found.the-variants.{At, Nothing}
 use Rattle.scan.proofs.SearchLaws.{startsWith-length, find-first}
 use Rattle.text.specs.White.{trim}
-use Rattle.text_dump_header.specs.Preamble.{strip, beforeAt, behindAt, before, behind, upTo, marked, versionText, routerIn, routerText, localAsText, reads, preambleLine}
+use Rattle.text_dump_header.specs.Preamble.{strip, before, behind, upTo, marked, versionText, routerIn, routerText, localAsText, reads, preambleLine}
 use Rattle.text_dump_header.specs.declared.Preamble.{Preamble}
 use Rattle.decimal.specs.Decimal.{readU32, readU64}
 use Rattle.decimal.specs.declared.U32Read.{U32Read}

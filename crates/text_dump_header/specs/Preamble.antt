@@ -1,7 +1,7 @@
 -- What a line of the preamble says (01, Header). The line is trimmed at its end.
 use Prim.Native.Nat.{ℕ, _+_}
 use mathlib.Core.Bool.{cond}
-use mathlib.Core.List.{List, [], _∷_}
+use mathlib.Core.List.{List}
 use mathlib.Core.Option.{Option, some, none, Option·getD, Option·map, bind}
 use lib.ListN.{length, take, drop}
 use Rattle.scan.specs.Ascii.{ascii}

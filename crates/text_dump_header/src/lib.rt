@@ -1,8 +1,6 @@
 // Is it a table, and what its preamble and column header say.
 ghost use mathlib.Core.Path.{_≡_};
-ghost use mathlib.Core.List.{[], _∷_};
 ghost use lib.ListN.{take};
-ghost use Rattle.scan.specs.Ascii.{ascii};
 ghost use Rattle.text_dump_header.specs.Detect.{contains as containsOf, isGraphic, detect};
 ghost use Rattle.text_dump_header.specs.Preamble.{upTo, reads, versionText, routerIn, routerText, localAsText, preambleLine};
 ghost use Rattle.text_dump_header.specs.Header.{headerOf, header};

@@ -1,19 +1,18 @@
 -- Each answer of the functions over a path, from the answers of their callees. Assumes nothing.
-use mathlib.Core.Path.{_≡_, refl, sym, ap, _∙_}
-use mathlib.Core.Bool.{Bool, true, false, not, cond, _&&_}
+use mathlib.Core.Path.{_≡_, sym, ap, _∙_}
+use mathlib.Core.Bool.{Bool, true, false, not, cond}
 use mathlib.Core.List.{List}
-use mathlib.Core.Option.{Option, some, none}
 use Prim.Native.Nat.{ℕ, _-_}
 use lib.Ieee.{Float}
 use lib.ListN.{length, take, drop}
 use borrow.Author.Tests.{not-true, not-false}
 use Rattle.utf8.specs.Utf8.{readable}
 use Rattle.calendar.specs.declared.Date.{Date}
-use Rattle.seconds.specs.Seconds.{asSecond, isSome, timestampOf}
+use Rattle.seconds.specs.Seconds.{asSecond, timestampOf}
 use Rattle.seconds.specs.declared.SecondRead.{SecondRead}
 use Rattle.seconds.specs.declared.SecondRead.the-variants as second
 use Rattle.seconds.proofs.Callers.{second-some, second-none}
-use Rattle.timestamp.specs.Dates.{dashed, dotted, hasShape, digitBefore, dateOf, momentOf, momentIn, isDashed, isDotted, firstPlace, asPlace, noonAt, noonIn, momentAt, secondIn, asInferred, inferTimestamp, refusal}
+use Rattle.timestamp.specs.Dates.{dashed, dotted, hasShape, digitBefore, dateOf, momentOf, momentIn, isDashed, isDotted, firstPlace, asPlace, noonIn, secondIn, asInferred, inferTimestamp, refusal}
 use Rattle.timestamp.specs.declared.Place.{Place}
 use Rattle.timestamp.specs.declared.Place.the-variants as place
 use Rattle.timestamp.specs.declared.Inferred.the-variants.{Timestamp, Nothing, NotUtf8}

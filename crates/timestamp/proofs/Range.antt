@@ -1,13 +1,13 @@
 -- The second that a path names lies in the years 0 to 9999, so what is inferred is a timestamp. Assumes nothing.
 use mathlib.Core.Path.{_≡_, refl, sym, ap, _∙_}
-use mathlib.Core.Bool.{Bool, true, false, cond, not, _&&_, _||_, false≢true, true≢false}
+use mathlib.Core.Bool.{Bool, true, false, cond, not, _&&_, _||_, false≢true}
 use mathlib.Core.List.{List, [], _∷_}
 use mathlib.Core.Option.{Option, some, none}
 use Prim.Native.Nat.{ℕ, zero, suc, _+_, _-_, _*_, _≤_, _<_}
 use native.Mathlib.Omega.{arith}
 use lib.Dec.{leb, eqb}
 use lib.Ieee.{Float}
-use lib.ListN.{length, getD, drop}
+use lib.ListN.{length, drop}
 use borrow.Author.Tests.{leb-true, eqb-true}
 use Rattle.decimal.specs.Decimal.{isDigit}
 use Rattle.utf8.specs.Utf8.{readable}
@@ -16,8 +16,8 @@ use Rattle.calendar.specs.declared.Date.{Date}
 use Rattle.calendar.proofs.Range.{within-years}
 use Rattle.seconds.specs.Seconds.{isSome, isTimestamp, timestampOf}
 use Rattle.seconds.proofs.Inverse.{second-of-timestamp}
-use Rattle.timestamp.specs.Dates.{fits, hasShape, dashed, dotted, two, dateOf, digitBefore, momentOf, momentIn, isDashed, isDotted, firstFrom, firstPlace, noonAt, noonIn, momentAt, secondIn, asInferred, inferTimestamp}
-use Rattle.timestamp.specs.declared.Inferred.the-variants.{Timestamp, Nothing, NotUtf8}
+use Rattle.timestamp.specs.Dates.{fits, hasShape, dashed, two, dateOf, digitBefore, momentOf, momentIn, isDashed, isDotted, firstFrom, firstPlace, noonAt, noonIn, momentAt, secondIn, asInferred, inferTimestamp}
+use Rattle.timestamp.specs.declared.Inferred.the-variants.{Timestamp, NotUtf8}
 
 -- timestamps count from the start of 1970
 pub epoch : momentOf record { year = 1970; month = 1; day = 1 } 0 0 ≡ some 62167219200

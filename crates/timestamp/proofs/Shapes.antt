@@ -9,7 +9,6 @@ use native.Mathlib.Omega.{arith}
 use lib.ListN.{length, getD, take, drop, length-drop, drop-of-length-le}
 use lib.Seq.{drop-cons, take-all}
 use Rattle.decimal.specs.Decimal.{isDigit}
-use Rattle.calendar.specs.declared.Date.{Date}
 use Rattle.timestamp.specs.Dates.{fits, hasShape, digitBefore, two, dateOf}
 
 -- the shape and the text from the place i on: what is behind it decides

@@ -1,6 +1,6 @@
 -- The starred dates of 01, and the cases that are easily misread, as facts of the definitions. Assumes nothing.
 use mathlib.Core.Path.{_≡_, refl}
-use mathlib.Core.List.{List, [], _∷_}
+use mathlib.Core.List.{[], _∷_}
 use lib.IntN.{pos}
 use lib.Ieee.{binary64, neg, ofInt}
 use Rattle.calendar.specs.Calendar.{total}

@@ -3,11 +3,6 @@ use Rattle.aspath_display.proofs.Text.{shown-spoilt, shown-short, shown
 use borrow.Author.Needs.{needs}
 use Rattle.aspath_display.proofs.display.Statement.{statement}
 use Rattle.aspath_display.proofs.display.Tie as tie
-use Rattle.aspath_display.proofs.display.Reads as reads
-use Rattle.aspath_display.proofs.display.Lts as lts
-use Rattle.aspath.proofs.is_spoilt.Reads as is-spoilt-reads
-use Rattle.aspath_display.proofs.path_len.Reads as path-len-reads
-use Rattle.aspath_display.proofs.write_path.Reads as write-path-reads
 
 ruleset laws = (passed, shown-spoilt, shown-short, shown-written)
 

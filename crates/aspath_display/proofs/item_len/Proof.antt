@@ -2,9 +2,6 @@ use Rattle.aspath_display.proofs.Text.{first-len, other-len}
 use borrow.Author.Needs.{needs}
 use Rattle.aspath_display.proofs.item_len.Statement.{statement}
 use Rattle.aspath_display.proofs.item_len.Tie as tie
-use Rattle.aspath_display.proofs.item_len.Reads as reads
-use Rattle.aspath_display.proofs.item_len.Lts as lts
-use Rattle.aspath_display.proofs.segment_len.Reads as segment-len-reads
 
 ruleset laws = (first-len, other-len)
 

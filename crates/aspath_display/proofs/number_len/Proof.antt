@@ -2,9 +2,6 @@ use Rattle.aspath_display.proofs.Text.{first-len, other-len}
 use borrow.Author.Needs.{needs}
 use Rattle.aspath_display.proofs.number_len.Statement.{statement}
 use Rattle.aspath_display.proofs.number_len.Tie as tie
-use Rattle.aspath_display.proofs.number_len.Reads as reads
-use Rattle.aspath_display.proofs.number_len.Lts as lts
-use Rattle.decimal_display.proofs.decimal_len.Reads as decimal-len-reads
 
 ruleset laws = (first-len, other-len)
 

@@ -8,9 +8,6 @@ use Rattle.aspath_display.specs.Display.{separated}
 use Rattle.aspath_display.proofs.Text.{len-more, len-end}
 use Rattle.aspath_display.proofs.numbers_len.Statement.{statement}
 use Rattle.aspath_display.proofs.numbers_len.Tie as tie
-use Rattle.aspath_display.proofs.numbers_len.Reads as reads
-use Rattle.aspath_display.proofs.numbers_len.Lts as lts
-use Rattle.aspath_display.proofs.number_len.Reads as number-len-reads
 use borrow.Author.Needs.{needs}
 
 abbrev Inv-loop : tie.InvT-loop

@@ -10,9 +10,6 @@ use Rattle.aspath_display.specs.Display.{pathText}
 use Rattle.aspath_display.proofs.Text.{part-small, item-more, item-end, item-fits}
 use Rattle.aspath_display.proofs.path_len.Statement.{statement}
 use Rattle.aspath_display.proofs.path_len.Tie as tie
-use Rattle.aspath_display.proofs.path_len.Reads as reads
-use Rattle.aspath_display.proofs.path_len.Lts as lts
-use Rattle.aspath_display.proofs.item_len.Reads as item-len-reads
 use borrow.Author.Needs.{needs}
 
 ruleset laws = (kind-there, length-there, place-start, place-next, numbers-end, place-fits, length-fits, end-fits, part-small, item-end, item-fits)

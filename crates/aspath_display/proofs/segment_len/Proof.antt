@@ -2,9 +2,6 @@ use Rattle.aspath_display.proofs.Text.{one-len, three-len, sequence-len
 use borrow.Author.Needs.{needs}
 use Rattle.aspath_display.proofs.segment_len.Statement.{statement}
 use Rattle.aspath_display.proofs.segment_len.Tie as tie
-use Rattle.aspath_display.proofs.segment_len.Reads as reads
-use Rattle.aspath_display.proofs.segment_len.Lts as lts
-use Rattle.aspath_display.proofs.numbers_len.Reads as numbers-len-reads
 
 ruleset laws = (one-len, three-len, sequence-len)
 

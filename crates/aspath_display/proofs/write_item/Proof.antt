@@ -2,10 +2,6 @@ use Rattle.output.proofs.Output.{then}
 use borrow.Author.Needs.{needs}
 use Rattle.aspath_display.proofs.write_item.Statement.{statement}
 use Rattle.aspath_display.proofs.write_item.Tie as tie
-use Rattle.aspath_display.proofs.write_item.Reads as reads
-use Rattle.aspath_display.proofs.write_item.Lts as lts
-use Rattle.aspath_display.proofs.write_lead.Reads as write-lead-reads
-use Rattle.aspath_display.proofs.write_segment.Reads as write-segment-reads
 
 ruleset laws = (then)
 

@@ -2,9 +2,6 @@ use Rattle.aspath_display.proofs.Text.{first-lead, other-lead}
 use borrow.Author.Needs.{needs}
 use Rattle.aspath_display.proofs.write_lead.Statement.{statement}
 use Rattle.aspath_display.proofs.write_lead.Tie as tie
-use Rattle.aspath_display.proofs.write_lead.Reads as reads
-use Rattle.aspath_display.proofs.write_lead.Lts as lts
-use Rattle.output.proofs.write_byte.Reads as write-byte-reads
 
 ruleset laws = (first-lead, other-lead)
 

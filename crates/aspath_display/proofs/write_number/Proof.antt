@@ -2,10 +2,6 @@ use Rattle.output.proofs.Output.{then}
 use borrow.Author.Needs.{needs}
 use Rattle.aspath_display.proofs.write_number.Statement.{statement}
 use Rattle.aspath_display.proofs.write_number.Tie as tie
-use Rattle.aspath_display.proofs.write_number.Reads as reads
-use Rattle.aspath_display.proofs.write_number.Lts as lts
-use Rattle.aspath_display.proofs.write_lead.Reads as write-lead-reads
-use Rattle.decimal_display.proofs.write_u32.Reads as write-u32-reads
 
 ruleset laws = (then)
 

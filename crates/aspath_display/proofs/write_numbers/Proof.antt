@@ -8,9 +8,6 @@ use Rattle.aspath_display.specs.Display.{separated}
 use Rattle.aspath_display.proofs.Text.{write-more, write-end}
 use Rattle.aspath_display.proofs.write_numbers.Statement.{statement}
 use Rattle.aspath_display.proofs.write_numbers.Tie as tie
-use Rattle.aspath_display.proofs.write_numbers.Reads as reads
-use Rattle.aspath_display.proofs.write_numbers.Lts as lts
-use Rattle.aspath_display.proofs.write_number.Reads as write-number-reads
 use borrow.Author.Needs.{needs}
 
 ruleset laws = (all-left, write-end)

@@ -10,9 +10,6 @@ use Rattle.aspath_display.specs.Display.{pathText}
 use Rattle.aspath_display.proofs.Text.{item-written, items-end}
 use Rattle.aspath_display.proofs.write_path.Statement.{statement}
 use Rattle.aspath_display.proofs.write_path.Tie as tie
-use Rattle.aspath_display.proofs.write_path.Reads as reads
-use Rattle.aspath_display.proofs.write_path.Lts as lts
-use Rattle.aspath_display.proofs.write_item.Reads as write-item-reads
 use borrow.Author.Needs.{needs}
 
 ruleset laws = (all-left, kind-there, length-there, place-start, place-next, numbers-end, place-fits, length-fits, end-fits, items-end)

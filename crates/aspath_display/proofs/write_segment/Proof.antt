@@ -2,10 +2,6 @@ use Rattle.aspath_display.proofs.Text.{one-written, three-written, sequ
 use borrow.Author.Needs.{needs}
 use Rattle.aspath_display.proofs.write_segment.Statement.{statement}
 use Rattle.aspath_display.proofs.write_segment.Tie as tie
-use Rattle.aspath_display.proofs.write_segment.Reads as reads
-use Rattle.aspath_display.proofs.write_segment.Lts as lts
-use Rattle.aspath_display.proofs.write_numbers.Reads as write-numbers-reads
-use Rattle.aspath_display.proofs.write_set.Reads as write-set-reads
 
 ruleset laws = (one-written, three-written, sequence-written)
 

@@ -2,10 +2,6 @@ use Rattle.output.proofs.Output.{then}
 use borrow.Author.Needs.{needs}
 use Rattle.aspath_display.proofs.write_set.Statement.{statement}
 use Rattle.aspath_display.proofs.write_set.Tie as tie
-use Rattle.aspath_display.proofs.write_set.Reads as reads
-use Rattle.aspath_display.proofs.write_set.Lts as lts
-use Rattle.aspath_display.proofs.write_numbers.Reads as write-numbers-reads
-use Rattle.output.proofs.write_byte.Reads as write-byte-reads
 
 ruleset laws = (then)
 

@@ -5,10 +5,6 @@ use Rattle.aspath_numbers.proofs.Among.{contains-is}
 use borrow.Author.Needs.{needs}
 use Rattle.aspath_numbers.proofs.contains_asn.Statement.{statement}
 use Rattle.aspath_numbers.proofs.contains_asn.Tie as tie
-use Rattle.aspath_numbers.proofs.contains_asn.Reads as reads
-use Rattle.aspath_numbers.proofs.contains_asn.Lts as lts
-use Rattle.aspath_numbers.proofs.has_number.Reads as has-number-reads
-use Rattle.aspath.proofs.is_spoilt.Reads as is-spoilt-reads
 
 is-spoilt-requires : tie.Need-is-spoilt-requires
 is-spoilt-requires c κs = search needs

@@ -2,9 +2,6 @@ use Rattle.aspath_numbers.proofs.Ends.{no-collector, first-kind, first-
 use borrow.Author.Needs.{needs}
 use Rattle.aspath_numbers.proofs.first_number.Statement.{statement}
 use Rattle.aspath_numbers.proofs.first_number.Tie as tie
-use Rattle.aspath_numbers.proofs.first_number.Reads as reads
-use Rattle.aspath_numbers.proofs.first_number.Lts as lts
-use Rattle.aspath_numbers.proofs.is_single.Reads as is-single-reads
 
 ruleset laws = (no-collector, first-kind, first-length, collector-there, number-first, collector-yes, collector-no)
 

@@ -2,10 +2,6 @@ use Rattle.aspath.proofs.Record.{spoilt-path, passed}
 use borrow.Author.Needs.{needs}
 use Rattle.aspath_numbers.proofs.get_collector_opt.Statement.{statement}
 use Rattle.aspath_numbers.proofs.get_collector_opt.Tie as tie
-use Rattle.aspath_numbers.proofs.get_collector_opt.Reads as reads
-use Rattle.aspath_numbers.proofs.get_collector_opt.Lts as lts
-use Rattle.aspath_numbers.proofs.first_number.Reads as first-number-reads
-use Rattle.aspath.proofs.is_spoilt.Reads as is-spoilt-reads
 
 ruleset laws = (passed)
 

@@ -2,10 +2,6 @@ use Rattle.aspath.proofs.Record.{spoilt-path, passed}
 use borrow.Author.Needs.{needs}
 use Rattle.aspath_numbers.proofs.get_origin_opt.Statement.{statement}
 use Rattle.aspath_numbers.proofs.get_origin_opt.Tie as tie
-use Rattle.aspath_numbers.proofs.get_origin_opt.Reads as reads
-use Rattle.aspath_numbers.proofs.get_origin_opt.Lts as lts
-use Rattle.aspath.proofs.is_spoilt.Reads as is-spoilt-reads
-use Rattle.aspath_numbers.proofs.last_number.Reads as last-number-reads
 
 ruleset laws = (passed)
 

@@ -7,8 +7,6 @@ use Rattle.aspath.specs.Lists.{any}
 use Rattle.aspath.proofs.Lists.{any-more, any-end}
 use Rattle.aspath_numbers.proofs.has_number.Statement.{statement}
 use Rattle.aspath_numbers.proofs.has_number.Tie as tie
-use Rattle.aspath_numbers.proofs.has_number.Reads as reads
-use Rattle.aspath_numbers.proofs.has_number.Lts as lts
 use borrow.Author.Needs.{needs}
 
 ruleset laws = (any-end)

@@ -2,9 +2,6 @@ use Rattle.aspath_numbers.proofs.Ends.{no-origin, last-kind, last-lengt
 use borrow.Author.Needs.{needs}
 use Rattle.aspath_numbers.proofs.last_number.Statement.{statement}
 use Rattle.aspath_numbers.proofs.last_number.Tie as tie
-use Rattle.aspath_numbers.proofs.last_number.Reads as reads
-use Rattle.aspath_numbers.proofs.last_number.Lts as lts
-use Rattle.aspath_numbers.proofs.is_single.Reads as is-single-reads
 
 ruleset laws = (no-origin, last-kind, last-length, origin-there, number-last, origin-yes, origin-no)
 

@@ -1,11 +1,8 @@
 use mathlib.Core.Path.{_≡_}
-use Prim.Native.Nat.{_-_, _≤_}
+use Prim.Native.Nat.{_-_}
 use lib.ListN.{length}
 use Rattle.aspath_vectors.proofs.all_routes.Statement.{statement}
 use Rattle.aspath_vectors.proofs.all_routes.Tie as tie
-use Rattle.aspath_vectors.proofs.all_routes.Reads as reads
-use Rattle.aspath_vectors.proofs.all_routes.Lts as lts
-use Rattle.aspath_vectors.proofs.all_route.Reads as all-route-reads
 use borrow.Author.Needs.{needs}
 
 abbrev Inv-loop : tie.InvT-loop

@@ -3,8 +3,6 @@ use lib.ListN.{length-take}
 use borrow.Author.Needs.{needs}
 use Rattle.cases.proofs.first_places.Statement.{statement}
 use Rattle.cases.proofs.first_places.Tie as tie
-use Rattle.cases.proofs.first_places.Reads as reads
-use Rattle.cases.proofs.first_places.Lts as lts
 
 slice-aggregate-result : tie.Need-slice-aggregate-result
 slice-aggregate-result c = simp length-take (omega arith)

@@ -3,9 +3,6 @@ use Prim.Native.Nat.{_-_, _≤_}
 use lib.ListN.{length}
 use Rattle.cases.proofs.put_places.Statement.{statement}
 use Rattle.cases.proofs.put_places.Tie as tie
-use Rattle.cases.proofs.put_places.Reads as reads
-use Rattle.cases.proofs.put_places.Lts as lts
-use Rattle.decimal_display.proofs.write_u32.Reads as write-u32-reads
 use borrow.Author.Needs.{needs}
 
 abbrev Inv-loop : tie.InvT-loop

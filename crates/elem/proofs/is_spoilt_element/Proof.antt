@@ -2,10 +2,6 @@ use borrow.Author.Needs.{needs}
 use Rattle.elem.proofs.Spoilt.{told}
 use Rattle.elem.proofs.is_spoilt_element.Statement.{statement}
 use Rattle.elem.proofs.is_spoilt_element.Tie as tie
-use Rattle.elem.proofs.is_spoilt_element.Reads as reads
-use Rattle.elem.proofs.is_spoilt_element.Lts as lts
-use Rattle.network.proofs.is_valid_prefix.Reads as is-valid-prefix-reads
-use Rattle.seconds.proofs.is_timestamp.Reads as is-timestamp-reads
 
 is-valid-prefix-requires : tie.Need-is-valid-prefix-requires
 is-valid-prefix-requires c κs = search needs

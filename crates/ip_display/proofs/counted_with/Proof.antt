@@ -2,8 +2,6 @@ use borrow.Author.Needs.{needs}
 use Rattle.ip_display.proofs.Writing.{counted-one, counted-none}
 use Rattle.ip_display.proofs.counted_with.Statement.{statement}
 use Rattle.ip_display.proofs.counted_with.Tie as tie
-use Rattle.ip_display.proofs.counted_with.Reads as reads
-use Rattle.ip_display.proofs.counted_with.Lts as lts
 
 ruleset laws = (counted-one, counted-none)
 

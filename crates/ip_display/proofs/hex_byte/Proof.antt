@@ -2,8 +2,6 @@ use borrow.Author.Needs.{needs}
 use Rattle.ip_display.proofs.Writing.{low-digit, high-digit}
 use Rattle.ip_display.proofs.hex_byte.Statement.{statement}
 use Rattle.ip_display.proofs.hex_byte.Tie as tie
-use Rattle.ip_display.proofs.hex_byte.Reads as reads
-use Rattle.ip_display.proofs.hex_byte.Lts as lts
 
 ruleset laws = (low-digit, high-digit)
 

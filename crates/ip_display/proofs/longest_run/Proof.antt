@@ -6,9 +6,6 @@ use Rattle.ip_display.specs.Groups.{zeros, longest, firstRun}
 use Rattle.ip_display.proofs.Writing.{run-start, run-zeros, run-bound, run-longer, run-here, run-kept, run-later, run-found}
 use Rattle.ip_display.proofs.longest_run.Statement.{statement}
 use Rattle.ip_display.proofs.longest_run.Tie as tie
-use Rattle.ip_display.proofs.longest_run.Reads as reads
-use Rattle.ip_display.proofs.longest_run.Lts as lts
-use Rattle.ip_display.proofs.counted_with.Reads as counted-with-reads
 
 ruleset laws = (run-start, run-zeros, run-bound, run-longer, run-here, run-kept, run-later, run-found)
 

@@ -7,10 +7,6 @@ use Rattle.ip_display.specs.Text.{behindColons}
 use Rattle.ip_display.proofs.Writing.{no-groups, next-group, all-groups}
 use Rattle.ip_display.proofs.write_groups.Statement.{statement}
 use Rattle.ip_display.proofs.write_groups.Tie as tie
-use Rattle.ip_display.proofs.write_groups.Reads as reads
-use Rattle.ip_display.proofs.write_groups.Lts as lts
-use Rattle.output.proofs.write_byte.Reads as write-byte-reads
-use Rattle.ip_display.proofs.write_hex.Reads as write-hex-reads
 
 ruleset laws = (no-groups, next-group, all-groups, all-left)
 

@@ -2,10 +2,6 @@ use borrow.Author.Needs.{needs}
 use Rattle.ip_display.proofs.Writing.{written-1, written-2, written-3, written-4}
 use Rattle.ip_display.proofs.write_hex.Statement.{statement}
 use Rattle.ip_display.proofs.write_hex.Tie as tie
-use Rattle.ip_display.proofs.write_hex.Reads as reads
-use Rattle.ip_display.proofs.write_hex.Lts as lts
-use Rattle.output.proofs.write_byte.Reads as write-byte-reads
-use Rattle.ip_display.proofs.hex_byte.Reads as hex-byte-reads
 
 ruleset laws = (written-1, written-2, written-3, written-4)
 

@@ -2,12 +2,6 @@ use borrow.Author.Needs.{needs}
 use Rattle.ip_display.proofs.Writing.{written-mapped, written-plain}
 use Rattle.ip_display.proofs.write_ipv6.Statement.{statement}
 use Rattle.ip_display.proofs.write_ipv6.Tie as tie
-use Rattle.ip_display.proofs.write_ipv6.Reads as reads
-use Rattle.ip_display.proofs.write_ipv6.Lts as lts
-use Rattle.output.proofs.write_bytes.Reads as write-bytes-reads
-use Rattle.ip_display.proofs.groups.Reads as groups-reads
-use Rattle.ip_display.proofs.write_ipv4.Reads as write-ipv4-reads
-use Rattle.ip_display.proofs.write_plain.Reads as write-plain-reads
 
 ruleset laws = (written-mapped, written-plain)
 

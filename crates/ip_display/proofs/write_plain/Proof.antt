@@ -2,11 +2,6 @@ use borrow.Author.Needs.{needs}
 use Rattle.ip_display.proofs.Writing.{run-le, run-fits, plain-joined, plain-shortened}
 use Rattle.ip_display.proofs.write_plain.Statement.{statement}
 use Rattle.ip_display.proofs.write_plain.Tie as tie
-use Rattle.ip_display.proofs.write_plain.Reads as reads
-use Rattle.ip_display.proofs.write_plain.Lts as lts
-use Rattle.output.proofs.write_bytes.Reads as write-bytes-reads
-use Rattle.ip_display.proofs.longest_run.Reads as longest-run-reads
-use Rattle.ip_display.proofs.write_groups.Reads as write-groups-reads
 
 ruleset laws = (run-le, run-fits, plain-joined, plain-shortened)
 

@@ -7,9 +7,6 @@ use Rattle.ipv4.specs.Parts.{before}
 use Rattle.ipv4.proofs.Ipv4.{dot-length, dot-value, last-length, last-value, more-length, digit-low, digit-high, more-value, over}
 use Rattle.ipv4.proofs.octet.Statement.{statement}
 use Rattle.ipv4.proofs.octet.Tie as tie
-use Rattle.ipv4.proofs.octet.Reads as reads
-use Rattle.ipv4.proofs.octet.Lts as lts
-use Rattle.ipv4.proofs.octet_of.Reads as octet-of-reads
 
 ruleset laws = (dot-length, dot-value, last-length, last-value, more-length, digit-low, digit-high, more-value, over)
 

@@ -2,8 +2,6 @@ use borrow.Author.Needs.{needs}
 use Rattle.ipv4.proofs.Ipv4.{octet-empty, octet-long, octet-zero, octet-one, octet-some}
 use Rattle.ipv4.proofs.octet_of.Statement.{statement}
 use Rattle.ipv4.proofs.octet_of.Tie as tie
-use Rattle.ipv4.proofs.octet_of.Reads as reads
-use Rattle.ipv4.proofs.octet_of.Lts as lts
 
 ruleset laws = (octet-empty, octet-long, octet-zero, octet-one, octet-some)
 

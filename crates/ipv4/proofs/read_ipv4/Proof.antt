@@ -7,9 +7,6 @@ use Rattle.ipv4.specs.Ipv4.{octet, ipv4}
 use Rattle.ipv4.proofs.Ipv4.{fourFrom, four-start, stop, value-small, too-few, whole, next, too-many, room, room-for, octets-grow}
 use Rattle.ipv4.proofs.read_ipv4.Statement.{statement}
 use Rattle.ipv4.proofs.read_ipv4.Tie as tie
-use Rattle.ipv4.proofs.read_ipv4.Reads as reads
-use Rattle.ipv4.proofs.read_ipv4.Lts as lts
-use Rattle.ipv4.proofs.octet.Reads as octet-reads
 
 ruleset laws = (four-start, stop, value-small, too-few, whole, next, too-many, room, room-for, octets-grow)
 

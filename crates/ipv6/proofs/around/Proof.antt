@@ -2,11 +2,6 @@ use borrow.Author.Needs.{needs}
 use Rattle.ipv6.proofs.Sides.{around-left, around-right, count-fits, around-many, fill-le, around-over, around-whole}
 use Rattle.ipv6.proofs.around.Statement.{statement}
 use Rattle.ipv6.proofs.around.Tie as tie
-use Rattle.ipv6.proofs.around.Reads as reads
-use Rattle.ipv6.proofs.around.Lts as lts
-use Rattle.ipv6.proofs.fill.Reads as fill-reads
-use Rattle.ipv6.proofs.side.Reads as side-reads
-use Rattle.ipv6.proofs.whole.Reads as whole-reads
 
 ruleset laws = (around-left, around-right, count-fits, around-many, fill-le, around-over, around-whole)
 

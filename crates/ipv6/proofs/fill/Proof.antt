@@ -6,9 +6,6 @@ use Rattle.ipv6.specs.Groups.{pushAll}
 use Rattle.ipv6.proofs.Sides.{fill-more, fill-n, fill-end}
 use Rattle.ipv6.proofs.fill.Statement.{statement}
 use Rattle.ipv6.proofs.fill.Tie as tie
-use Rattle.ipv6.proofs.fill.Reads as reads
-use Rattle.ipv6.proofs.fill.Lts as lts
-use Rattle.ipv6.proofs.push.Reads as push-reads
 
 ruleset laws = (fill-more, fill-n, fill-end)
 

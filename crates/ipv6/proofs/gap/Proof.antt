@@ -6,8 +6,6 @@ use Rattle.ipv6.specs.Ipv6.{gap}
 use Rattle.ipv6.proofs.Ipv6.{gap-start, gap-last, gap-here, gap-later}
 use Rattle.ipv6.proofs.gap.Statement.{statement}
 use Rattle.ipv6.proofs.gap.Tie as tie
-use Rattle.ipv6.proofs.gap.Reads as reads
-use Rattle.ipv6.proofs.gap.Lts as lts
 
 ruleset laws = (gap-start, gap-last, gap-here, gap-later)
 

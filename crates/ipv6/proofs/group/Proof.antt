@@ -7,9 +7,6 @@ use Rattle.ipv6.specs.Ipv6.{hexDigit, valueFrom}
 use Rattle.ipv6.proofs.Ipv6.{group-empty, group-long, group-from, group-whole, group-stop, group-more, hex-room, hex-room-for, hex-grows, hex-fits}
 use Rattle.ipv6.proofs.group.Statement.{statement}
 use Rattle.ipv6.proofs.group.Tie as tie
-use Rattle.ipv6.proofs.group.Reads as reads
-use Rattle.ipv6.proofs.group.Lts as lts
-use Rattle.ipv6.proofs.hex_digit.Reads as hex-digit-reads
 
 ruleset laws = (group-empty, group-long, group-from, group-whole, group-stop, group-more, hex-room, hex-room-for, hex-grows, hex-fits)
 

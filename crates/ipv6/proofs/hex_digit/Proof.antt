@@ -2,8 +2,6 @@ use borrow.Author.Needs.{needs}
 use Rattle.ipv6.proofs.Ipv6.{below-0, from-0, above-9, from-A, above-F, from-a, above-f}
 use Rattle.ipv6.proofs.hex_digit.Statement.{statement}
 use Rattle.ipv6.proofs.hex_digit.Tie as tie
-use Rattle.ipv6.proofs.hex_digit.Reads as reads
-use Rattle.ipv6.proofs.hex_digit.Lts as lts
 
 ruleset laws = (below-0, from-0, above-9, from-A, above-F, from-a, above-f)
 

@@ -2,11 +2,6 @@ use borrow.Author.Needs.{needs}
 use Rattle.ipv6.proofs.Sides.{part-full, part-group, part-bare, part-none, part-crowded, part-dotted, push-le-6}
 use Rattle.ipv6.proofs.last_part.Statement.{statement}
 use Rattle.ipv6.proofs.last_part.Tie as tie
-use Rattle.ipv6.proofs.last_part.Reads as reads
-use Rattle.ipv6.proofs.last_part.Lts as lts
-use Rattle.ipv6.proofs.group.Reads as group-reads
-use Rattle.ipv6.proofs.push.Reads as push-reads
-use Rattle.ipv4.proofs.read_ipv4.Reads as read-ipv4-reads
 
 ruleset laws = (part-full, part-group, part-bare, part-none, part-crowded, part-dotted, push-le-6)
 

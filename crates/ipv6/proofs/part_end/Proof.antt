@@ -6,8 +6,6 @@ use Rattle.ipv4.specs.Parts.{before}
 use Rattle.ipv4.proofs.Parts.{end-start, end-here, end-last, end-later}
 use Rattle.ipv6.proofs.part_end.Statement.{statement}
 use Rattle.ipv6.proofs.part_end.Tie as tie
-use Rattle.ipv6.proofs.part_end.Reads as reads
-use Rattle.ipv6.proofs.part_end.Lts as lts
 
 ruleset laws = (end-start, end-here, end-last, end-later)
 

@@ -2,8 +2,6 @@ use borrow.Author.Needs.{needs}
 use Rattle.ipv6.proofs.Ipv6.{push-upper, push-lower}
 use Rattle.ipv6.proofs.push.Statement.{statement}
 use Rattle.ipv6.proofs.push.Tie as tie
-use Rattle.ipv6.proofs.push.Reads as reads
-use Rattle.ipv6.proofs.push.Lts as lts
 
 ruleset laws = (push-upper, push-lower)
 

@@ -4,12 +4,6 @@ use Rattle.ipv6.proofs.Ipv6.{gap-room}
 use Rattle.ipv6.proofs.Sides.{gap-text, plain-none, plain-whole}
 use Rattle.ipv6.proofs.read_ipv6.Statement.{statement}
 use Rattle.ipv6.proofs.read_ipv6.Tie as tie
-use Rattle.ipv6.proofs.read_ipv6.Reads as reads
-use Rattle.ipv6.proofs.read_ipv6.Lts as lts
-use Rattle.ipv6.proofs.around.Reads as around-reads
-use Rattle.ipv6.proofs.gap.Reads as gap-reads
-use Rattle.ipv6.proofs.side.Reads as side-reads
-use Rattle.ipv6.proofs.whole.Reads as whole-reads
 
 ruleset laws = (take-count, gap-room, gap-text, plain-none, plain-whole)
 

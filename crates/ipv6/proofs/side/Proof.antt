@@ -9,12 +9,6 @@ use Rattle.ipv4.proofs.Parts.{take-count}
 use Rattle.ipv6.proofs.Sides.{push-le, side-empty, side-start, side-last, side-stop, side-full, side-next}
 use Rattle.ipv6.proofs.side.Statement.{statement}
 use Rattle.ipv6.proofs.side.Tie as tie
-use Rattle.ipv6.proofs.side.Reads as reads
-use Rattle.ipv6.proofs.side.Lts as lts
-use Rattle.ipv6.proofs.group.Reads as group-reads
-use Rattle.ipv6.proofs.last_part.Reads as last-part-reads
-use Rattle.ipv6.proofs.part_end.Reads as part-end-reads
-use Rattle.ipv6.proofs.push.Reads as push-reads
 
 ruleset laws = (take-count, push-le, side-empty, side-start, side-last, side-stop, side-full, side-next)
 

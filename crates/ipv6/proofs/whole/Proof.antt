@@ -2,8 +2,6 @@ use borrow.Author.Needs.{needs}
 use Rattle.ipv6.proofs.Sides.{whole-yes, whole-no}
 use Rattle.ipv6.proofs.whole.Statement.{statement}
 use Rattle.ipv6.proofs.whole.Tie as tie
-use Rattle.ipv6.proofs.whole.Reads as reads
-use Rattle.ipv6.proofs.whole.Lts as lts
 
 ruleset laws = (whole-yes, whole-no)
 

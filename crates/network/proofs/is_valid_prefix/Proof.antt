@@ -2,8 +2,6 @@ use borrow.Author.Needs.{needs}
 use Rattle.network.proofs.Reading.{valid-v4, valid-v6}
 use Rattle.network.proofs.is_valid_prefix.Statement.{statement}
 use Rattle.network.proofs.is_valid_prefix.Tie as tie
-use Rattle.network.proofs.is_valid_prefix.Reads as reads
-use Rattle.network.proofs.is_valid_prefix.Lts as lts
 
 ruleset laws = (valid-v4, valid-v6)
 

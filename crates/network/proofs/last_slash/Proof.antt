@@ -6,8 +6,6 @@ use Rattle.network.specs.Prefix.{lastPlace}
 use Rattle.network.proofs.Reading.{last-here, last-before, last-none, last-start}
 use Rattle.network.proofs.last_slash.Statement.{statement}
 use Rattle.network.proofs.last_slash.Tie as tie
-use Rattle.network.proofs.last_slash.Reads as reads
-use Rattle.network.proofs.last_slash.Lts as lts
 
 ruleset laws = (last-here, last-before, last-none, last-start)
 

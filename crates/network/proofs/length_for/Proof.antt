@@ -2,9 +2,6 @@ use borrow.Author.Needs.{needs}
 use Rattle.network.proofs.Reading.{length-v4, length-v6}
 use Rattle.network.proofs.length_for.Statement.{statement}
 use Rattle.network.proofs.length_for.Tie as tie
-use Rattle.network.proofs.length_for.Reads as reads
-use Rattle.network.proofs.length_for.Lts as lts
-use Rattle.network.proofs.read_length.Reads as read-length-reads
 
 ruleset laws = (length-v4, length-v6)
 

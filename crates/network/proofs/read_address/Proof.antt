@@ -2,10 +2,6 @@ use borrow.Author.Needs.{needs}
 use Rattle.network.proofs.Reading.{address-v4, address-none, address-v6}
 use Rattle.network.proofs.read_address.Statement.{statement}
 use Rattle.network.proofs.read_address.Tie as tie
-use Rattle.network.proofs.read_address.Reads as reads
-use Rattle.network.proofs.read_address.Lts as lts
-use Rattle.ipv4.proofs.read_ipv4.Reads as read-ipv4-reads
-use Rattle.ipv6.proofs.read_ipv6.Reads as read-ipv6-reads
 
 ruleset laws = (address-v4, address-none, address-v6)
 

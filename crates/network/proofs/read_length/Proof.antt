@@ -2,9 +2,6 @@ use borrow.Author.Needs.{needs}
 use Rattle.network.proofs.Reading.{length-long, length-none, length-over, length-some}
 use Rattle.network.proofs.read_length.Statement.{statement}
 use Rattle.network.proofs.read_length.Tie as tie
-use Rattle.network.proofs.read_length.Reads as reads
-use Rattle.network.proofs.read_length.Lts as lts
-use Rattle.decimal.proofs.read_digits.Reads as read-digits-reads
 
 ruleset laws = (length-long, length-none, length-over, length-some)
 

@@ -3,11 +3,6 @@ use Rattle.ipv4.proofs.Parts.{take-count}
 use Rattle.network.proofs.Reading.{prefix-bare, prefix-no-address, prefix-no-length, prefix-some}
 use Rattle.network.proofs.read_prefix.Statement.{statement}
 use Rattle.network.proofs.read_prefix.Tie as tie
-use Rattle.network.proofs.read_prefix.Reads as reads
-use Rattle.network.proofs.read_prefix.Lts as lts
-use Rattle.network.proofs.last_slash.Reads as last-slash-reads
-use Rattle.network.proofs.length_for.Reads as length-for-reads
-use Rattle.network.proofs.read_address.Reads as read-address-reads
 
 ruleset laws = (take-count, prefix-bare, prefix-no-address, prefix-no-length, prefix-some)
 

@@ -3,9 +3,6 @@ use borrow.Author.Needs.{needs}
 use Rattle.network_display.proofs.Writing.{address-length}
 use Rattle.network_display.proofs.address_len.Statement.{statement}
 use Rattle.network_display.proofs.address_len.Tie as tie
-use Rattle.network_display.proofs.address_len.Reads as reads
-use Rattle.network_display.proofs.address_len.Lts as lts
-use Rattle.network_display.proofs.write_address.Reads as write-address-reads
 
 ruleset laws = address-length
 

@@ -2,10 +2,6 @@ use borrow.Author.Needs.{needs}
 use Rattle.network_display.proofs.Writing.{prefix-length}
 use Rattle.network_display.proofs.prefix_text_len.Statement.{statement}
 use Rattle.network_display.proofs.prefix_text_len.Tie as tie
-use Rattle.network_display.proofs.prefix_text_len.Reads as reads
-use Rattle.network_display.proofs.prefix_text_len.Lts as lts
-use Rattle.decimal_display.proofs.decimal_len.Reads as decimal-len-reads
-use Rattle.network_display.proofs.address_len.Reads as address-len-reads
 
 ruleset laws = prefix-length
 

@@ -2,10 +2,6 @@ use borrow.Author.Needs.{needs}
 use Rattle.output.proofs.Output.{too-short, kept, wrote, whole}
 use Rattle.network_display.proofs.put_address.Statement.{statement}
 use Rattle.network_display.proofs.put_address.Tie as tie
-use Rattle.network_display.proofs.put_address.Reads as reads
-use Rattle.network_display.proofs.put_address.Lts as lts
-use Rattle.network_display.proofs.address_len.Reads as address-len-reads
-use Rattle.network_display.proofs.write_address.Reads as write-address-reads
 
 ruleset laws = (too-short, kept, wrote, whole)
 

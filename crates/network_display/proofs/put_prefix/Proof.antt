@@ -2,10 +2,6 @@ use borrow.Author.Needs.{needs}
 use Rattle.output.proofs.Output.{too-short, kept, wrote, whole}
 use Rattle.network_display.proofs.put_prefix.Statement.{statement}
 use Rattle.network_display.proofs.put_prefix.Tie as tie
-use Rattle.network_display.proofs.put_prefix.Reads as reads
-use Rattle.network_display.proofs.put_prefix.Lts as lts
-use Rattle.network_display.proofs.prefix_text_len.Reads as prefix-text-len-reads
-use Rattle.network_display.proofs.write_prefix.Reads as write-prefix-reads
 
 ruleset laws = (too-short, kept, wrote, whole)
 

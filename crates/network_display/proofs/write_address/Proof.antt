@@ -2,10 +2,6 @@ use borrow.Author.Needs.{needs}
 use Rattle.network_display.proofs.Writing.{written-v4, written-v6}
 use Rattle.network_display.proofs.write_address.Statement.{statement}
 use Rattle.network_display.proofs.write_address.Tie as tie
-use Rattle.network_display.proofs.write_address.Reads as reads
-use Rattle.network_display.proofs.write_address.Lts as lts
-use Rattle.ip_display.proofs.write_ipv4.Reads as write-ipv4-reads
-use Rattle.ip_display.proofs.write_ipv6.Reads as write-ipv6-reads
 
 ruleset laws = (written-v4, written-v6)
 

@@ -2,11 +2,6 @@ use borrow.Author.Needs.{needs}
 use Rattle.network_display.proofs.Writing.{written-prefix}
 use Rattle.network_display.proofs.write_prefix.Statement.{statement}
 use Rattle.network_display.proofs.write_prefix.Tie as tie
-use Rattle.network_display.proofs.write_prefix.Reads as reads
-use Rattle.network_display.proofs.write_prefix.Lts as lts
-use Rattle.output.proofs.write_byte.Reads as write-byte-reads
-use Rattle.decimal_display.proofs.write_u32.Reads as write-u32-reads
-use Rattle.network_display.proofs.write_address.Reads as write-address-reads
 
 ruleset laws = written-prefix
 

@@ -4,9 +4,6 @@ use native.Mathlib.Omega.{arith}
 use lib.ListN.{length, length-set}
 use Rattle.path_cases.proofs.digits.Statement.{statement}
 use Rattle.path_cases.proofs.digits.Tie as tie
-use Rattle.path_cases.proofs.digits.Reads as reads
-use Rattle.path_cases.proofs.digits.Lts as lts
-use Rattle.path_cases.proofs.digit.Reads as digit-reads
 use borrow.Author.Needs.{needs}
 
 abbrev Inv-loop : tie.InvT-loop

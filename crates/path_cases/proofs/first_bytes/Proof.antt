@@ -3,8 +3,6 @@ use lib.ListN.{length-take}
 use borrow.Author.Needs.{needs}
 use Rattle.path_cases.proofs.first_bytes.Statement.{statement}
 use Rattle.path_cases.proofs.first_bytes.Tie as tie
-use Rattle.path_cases.proofs.first_bytes.Reads as reads
-use Rattle.path_cases.proofs.first_bytes.Lts as lts
 
 slice-aggregate-result : tie.Need-slice-aggregate-result
 slice-aggregate-result c = simp length-take (omega arith)

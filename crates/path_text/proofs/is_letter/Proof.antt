@@ -2,8 +2,6 @@ use borrow.Author.Needs.{needs}
 use Rattle.path_text.proofs.OriginLaws.{letter-told}
 use Rattle.path_text.proofs.is_letter.Statement.{statement}
 use Rattle.path_text.proofs.is_letter.Tie as tie
-use Rattle.path_text.proofs.is_letter.Reads as reads
-use Rattle.path_text.proofs.is_letter.Lts as lts
 
 ruleset laws = (letter-told)
 

@@ -2,8 +2,6 @@ use borrow.Author.Needs.{needs}
 use Rattle.path_text.proofs.OriginLaws.{bool-one}
 use Rattle.path_text.proofs.one_if.Statement.{statement}
 use Rattle.path_text.proofs.one_if.Tie as tie
-use Rattle.path_text.proofs.one_if.Reads as reads
-use Rattle.path_text.proofs.one_if.Lts as lts
 
 ruleset laws = (bool-one)
 

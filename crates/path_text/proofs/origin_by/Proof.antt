@@ -2,9 +2,6 @@ use borrow.Author.Needs.{needs}
 use Rattle.path_text.proofs.OriginLaws.{letter-i, letter-e, letter-mark}
 use Rattle.path_text.proofs.origin_by.Statement.{statement}
 use Rattle.path_text.proofs.origin_by.Tie as tie
-use Rattle.path_text.proofs.origin_by.Reads as reads
-use Rattle.path_text.proofs.origin_by.Lts as lts
-use Rattle.path_text.proofs.one_if.Reads as one-if-reads
 
 ruleset laws = (letter-i, letter-e, letter-mark)
 

@@ -3,12 +3,6 @@ use Rattle.path_text.proofs.OriginLaws.{letter-known, ends-letter}
 use borrow.Author.Needs.{needs}
 use Rattle.path_text.proofs.origin_of.Statement.{statement}
 use Rattle.path_text.proofs.origin_of.Tie as tie
-use Rattle.path_text.proofs.origin_of.Reads as reads
-use Rattle.path_text.proofs.origin_of.Lts as lts
-use Rattle.path_text.proofs.is_letter.Reads as is-letter-reads
-use Rattle.path_text.proofs.last_token.Reads as last-token-reads
-use Rattle.path_text.proofs.letter_of.Reads as letter-of-reads
-use Rattle.path_text.proofs.origin_by.Reads as origin-by-reads
 
 ruleset laws = (origin-read, letter-known, ends-letter)
 

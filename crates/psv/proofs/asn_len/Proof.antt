@@ -2,9 +2,6 @@ use Rattle.psv.proofs.Printing.{asn-length, no-asn-length}
 use borrow.Author.Needs.{needs}
 use Rattle.psv.proofs.asn_len.Statement.{statement}
 use Rattle.psv.proofs.asn_len.Tie as tie
-use Rattle.psv.proofs.asn_len.Reads as reads
-use Rattle.psv.proofs.asn_len.Lts as lts
-use Rattle.decimal_display.proofs.decimal_len.Reads as decimal-len-reads
 
 ruleset laws = (asn-length, no-asn-length)
 

@@ -2,11 +2,6 @@ use Rattle.psv.proofs.Printing.{attributes-length}
 use borrow.Author.Needs.{needs}
 use Rattle.psv.proofs.attributes_len.Statement.{statement}
 use Rattle.psv.proofs.attributes_len.Tie as tie
-use Rattle.psv.proofs.attributes_len.Reads as reads
-use Rattle.psv.proofs.attributes_len.Lts as lts
-use Rattle.network_display.proofs.address_len.Reads as address-len-reads
-use Rattle.psv.proofs.origin_len.Reads as origin-len-reads
-use Rattle.psv.proofs.u32_len.Reads as u32-len-reads
 
 ruleset laws = (attributes-length)
 

@@ -2,9 +2,6 @@ use Rattle.psv.proofs.Printing.{display-printed}
 use borrow.Author.Needs.{needs}
 use Rattle.psv.proofs.display_element.Statement.{statement}
 use Rattle.psv.proofs.display_element.Tie as tie
-use Rattle.psv.proofs.display_element.Reads as reads
-use Rattle.psv.proofs.display_element.Lts as lts
-use Rattle.psv.proofs.put_line.Reads as put-line-reads
 
 ruleset laws = (display-printed)
 

@@ -2,9 +2,6 @@ use Rattle.psv.proofs.Printing.{header-short, header-written}
 use borrow.Author.Needs.{needs}
 use Rattle.psv.proofs.get_psv_header.Statement.{statement}
 use Rattle.psv.proofs.get_psv_header.Tie as tie
-use Rattle.psv.proofs.get_psv_header.Reads as reads
-use Rattle.psv.proofs.get_psv_header.Lts as lts
-use Rattle.output.proofs.write_bytes.Reads as write-bytes-reads
 
 ruleset laws = (header-short, header-written)
 

@@ -1,7 +1,6 @@
-use mathlib.Core.Path.{_≡_, refl}
+use mathlib.Core.Path.{_≡_}
 use mathlib.Core.Bool.{true}
 use Prim.Native.Nat.{_-_, _≤_}
-use native.Mathlib.Omega.{arith}
 use lib.ListN.{length, drop}
 use lib.Dec.{leb}
 use Rattle.decimal_display.specs.Printed.{decimal}
@@ -9,9 +8,6 @@ use Rattle.aspath_display.specs.Display.{separated}
 use Rattle.psv.proofs.Printing.{room-more, room-none, room-end}
 use Rattle.psv.proofs.has_room.Statement.{statement}
 use Rattle.psv.proofs.has_room.Tie as tie
-use Rattle.psv.proofs.has_room.Reads as reads
-use Rattle.psv.proofs.has_room.Lts as lts
-use Rattle.aspath_display.proofs.number_len.Reads as number-len-reads
 use borrow.Author.Needs.{needs}
 
 ruleset laws = (room-more, room-none, room-end)

@@ -2,8 +2,6 @@ use Rattle.psv.proofs.Printing.{igp-length, egp-length, incomplete-leng
 use borrow.Author.Needs.{needs}
 use Rattle.psv.proofs.origin_len.Statement.{statement}
 use Rattle.psv.proofs.origin_len.Tie as tie
-use Rattle.psv.proofs.origin_len.Reads as reads
-use Rattle.psv.proofs.origin_len.Lts as lts
 
 ruleset laws = (igp-length, egp-length, incomplete-length, no-origin-length)
 

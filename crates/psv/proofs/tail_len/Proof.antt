@@ -2,10 +2,6 @@ use Rattle.psv.proofs.Printing.{psv-tail-length, display-tail-length}
 use borrow.Author.Needs.{needs}
 use Rattle.psv.proofs.tail_len.Statement.{statement}
 use Rattle.psv.proofs.tail_len.Tie as tie
-use Rattle.psv.proofs.tail_len.Reads as reads
-use Rattle.psv.proofs.tail_len.Lts as lts
-use Rattle.psv.proofs.asn_len.Reads as asn-len-reads
-use Rattle.psv.proofs.attributes_len.Reads as attributes-len-reads
 
 ruleset laws = (psv-tail-length, display-tail-length)
 

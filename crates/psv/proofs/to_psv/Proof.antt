@@ -2,9 +2,6 @@ use Rattle.psv.proofs.Printing.{psv-printed}
 use borrow.Author.Needs.{needs}
 use Rattle.psv.proofs.to_psv.Statement.{statement}
 use Rattle.psv.proofs.to_psv.Tie as tie
-use Rattle.psv.proofs.to_psv.Reads as reads
-use Rattle.psv.proofs.to_psv.Lts as lts
-use Rattle.psv.proofs.put_line.Reads as put-line-reads
 
 ruleset laws = (psv-printed)
 

@@ -2,9 +2,6 @@ use Rattle.psv.proofs.Printing.{number-length, no-number-length}
 use borrow.Author.Needs.{needs}
 use Rattle.psv.proofs.u32_len.Statement.{statement}
 use Rattle.psv.proofs.u32_len.Tie as tie
-use Rattle.psv.proofs.u32_len.Reads as reads
-use Rattle.psv.proofs.u32_len.Lts as lts
-use Rattle.decimal_display.proofs.decimal_len.Reads as decimal-len-reads
 
 ruleset laws = (number-length, no-number-length)
 

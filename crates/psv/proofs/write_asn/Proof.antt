@@ -2,9 +2,6 @@ use Rattle.psv.proofs.Printing.{asn-written, no-asn-written}
 use borrow.Author.Needs.{needs}
 use Rattle.psv.proofs.write_asn.Statement.{statement}
 use Rattle.psv.proofs.write_asn.Tie as tie
-use Rattle.psv.proofs.write_asn.Reads as reads
-use Rattle.psv.proofs.write_asn.Lts as lts
-use Rattle.decimal_display.proofs.write_u32.Reads as write-u32-reads
 
 ruleset laws = (asn-written, no-asn-written)
 

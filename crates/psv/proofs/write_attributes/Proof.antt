@@ -2,12 +2,6 @@ use Rattle.psv.proofs.Printing.{attributes-written}
 use borrow.Author.Needs.{needs}
 use Rattle.psv.proofs.write_attributes.Statement.{statement}
 use Rattle.psv.proofs.write_attributes.Tie as tie
-use Rattle.psv.proofs.write_attributes.Reads as reads
-use Rattle.psv.proofs.write_attributes.Lts as lts
-use Rattle.output.proofs.write_byte.Reads as write-byte-reads
-use Rattle.output.proofs.write_bytes.Reads as write-bytes-reads
-use Rattle.psv.proofs.write_preference.Reads as write-preference-reads
-use Rattle.psv.proofs.write_u32.Reads as write-u32-reads
 
 ruleset laws = (attributes-written)
 

@@ -2,11 +2,6 @@ use Rattle.psv.proofs.Printing.{hop-written}
 use borrow.Author.Needs.{needs}
 use Rattle.psv.proofs.write_hop.Statement.{statement}
 use Rattle.psv.proofs.write_hop.Tie as tie
-use Rattle.psv.proofs.write_hop.Reads as reads
-use Rattle.psv.proofs.write_hop.Lts as lts
-use Rattle.output.proofs.write_byte.Reads as write-byte-reads
-use Rattle.network_display.proofs.write_address.Reads as write-address-reads
-use Rattle.psv.proofs.write_origin.Reads as write-origin-reads
 
 ruleset laws = (hop-written)
 

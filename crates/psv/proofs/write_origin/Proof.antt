@@ -2,9 +2,6 @@ use Rattle.psv.proofs.Printing.{igp-written, egp-written, incomplete-wr
 use borrow.Author.Needs.{needs}
 use Rattle.psv.proofs.write_origin.Statement.{statement}
 use Rattle.psv.proofs.write_origin.Tie as tie
-use Rattle.psv.proofs.write_origin.Reads as reads
-use Rattle.psv.proofs.write_origin.Lts as lts
-use Rattle.output.proofs.write_bytes.Reads as write-bytes-reads
 
 ruleset laws = (igp-written, egp-written, incomplete-written, no-origin-written)
 

@@ -2,11 +2,6 @@ use Rattle.psv.proofs.Printing.{preference-written}
 use borrow.Author.Needs.{needs}
 use Rattle.psv.proofs.write_preference.Statement.{statement}
 use Rattle.psv.proofs.write_preference.Tie as tie
-use Rattle.psv.proofs.write_preference.Reads as reads
-use Rattle.psv.proofs.write_preference.Lts as lts
-use Rattle.output.proofs.write_byte.Reads as write-byte-reads
-use Rattle.psv.proofs.write_hop.Reads as write-hop-reads
-use Rattle.psv.proofs.write_u32.Reads as write-u32-reads
 
 ruleset laws = (preference-written)
 

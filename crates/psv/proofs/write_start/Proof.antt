@@ -2,11 +2,6 @@ use Rattle.psv.proofs.Printing.{start-written}
 use borrow.Author.Needs.{needs}
 use Rattle.psv.proofs.write_start.Statement.{statement}
 use Rattle.psv.proofs.write_start.Tie as tie
-use Rattle.psv.proofs.write_start.Reads as reads
-use Rattle.psv.proofs.write_start.Lts as lts
-use Rattle.output.proofs.write_byte.Reads as write-byte-reads
-use Rattle.psv.proofs.write_time.Reads as write-time-reads
-use Rattle.psv.proofs.write_type.Reads as write-type-reads
 
 ruleset laws = (start-written)
 

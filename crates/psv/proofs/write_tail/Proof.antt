@@ -2,11 +2,6 @@ use Rattle.psv.proofs.Printing.{psv-tail-written, display-tail-written}
 use borrow.Author.Needs.{needs}
 use Rattle.psv.proofs.write_tail.Statement.{statement}
 use Rattle.psv.proofs.write_tail.Tie as tie
-use Rattle.psv.proofs.write_tail.Reads as reads
-use Rattle.psv.proofs.write_tail.Lts as lts
-use Rattle.output.proofs.write_byte.Reads as write-byte-reads
-use Rattle.psv.proofs.write_asn.Reads as write-asn-reads
-use Rattle.psv.proofs.write_attributes.Reads as write-attributes-reads
 
 ruleset laws = (psv-tail-written, display-tail-written)
 

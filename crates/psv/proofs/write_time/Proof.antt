@@ -2,10 +2,6 @@ use Rattle.psv.proofs.Printing.{time-written, no-time-written}
 use borrow.Author.Needs.{needs}
 use Rattle.psv.proofs.write_time.Statement.{statement}
 use Rattle.psv.proofs.write_time.Tie as tie
-use Rattle.psv.proofs.write_time.Reads as reads
-use Rattle.psv.proofs.write_time.Lts as lts
-use Rattle.seconds.proofs.second_of.Reads as second-of-reads
-use Rattle.seconds.proofs.write_timestamp.Reads as write-timestamp-reads
 
 ruleset laws = (time-written, no-time-written)
 

@@ -2,9 +2,6 @@ use Rattle.psv.proofs.Printing.{announced, withdrawn}
 use borrow.Author.Needs.{needs}
 use Rattle.psv.proofs.write_type.Statement.{statement}
 use Rattle.psv.proofs.write_type.Tie as tie
-use Rattle.psv.proofs.write_type.Reads as reads
-use Rattle.psv.proofs.write_type.Lts as lts
-use Rattle.output.proofs.write_byte.Reads as write-byte-reads
 
 ruleset laws = (announced, withdrawn)
 

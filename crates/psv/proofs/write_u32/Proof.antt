@@ -2,9 +2,6 @@ use Rattle.psv.proofs.Printing.{number-written, no-number-written}
 use borrow.Author.Needs.{needs}
 use Rattle.psv.proofs.write_u32.Statement.{statement}
 use Rattle.psv.proofs.write_u32.Tie as tie
-use Rattle.psv.proofs.write_u32.Reads as reads
-use Rattle.psv.proofs.write_u32.Lts as lts
-use Rattle.decimal_display.proofs.write_u32.Reads as write-u32-reads
 
 ruleset laws = (number-written, no-number-written)
 

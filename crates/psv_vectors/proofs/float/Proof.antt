@@ -2,8 +2,6 @@ use Rattle.seconds.proofs.Bits.{of-number}
 use borrow.Author.Needs.{needs}
 use Rattle.psv_vectors.proofs.float.Statement.{statement}
 use Rattle.psv_vectors.proofs.float.Tie as tie
-use Rattle.psv_vectors.proofs.float.Reads as reads
-use Rattle.psv_vectors.proofs.float.Lts as lts
 
 returns : tie.Need-returns
 returns c = search needs

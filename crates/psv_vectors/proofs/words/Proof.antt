@@ -2,9 +2,6 @@ use Prim.Native.Nat.{_-_, _≤_}
 use borrow.Author.Needs.{needs}
 use Rattle.psv_vectors.proofs.words.Statement.{statement}
 use Rattle.psv_vectors.proofs.words.Tie as tie
-use Rattle.psv_vectors.proofs.words.Reads as reads
-use Rattle.psv_vectors.proofs.words.Lts as lts
-use Rattle.psv_vectors.proofs.word_at.Reads as word-at-reads
 
 abbrev Inv-loop : tie.InvT-loop
 Inv-loop s out₀ i₀ out i = i ≤ 1024

@@ -8,11 +8,6 @@ use Rattle.scan.proofs.LineLaws.{feed-far, feed-least, feed-from}
 use Rattle.scan.proofs.feed_at.Statement.{statement}
 use Rattle.scan.proofs.feed_at.Tie as tie
 use borrow.Author.Needs.{needs}
-use Rattle.scan.proofs.feed_at.Reads as reads
-use Rattle.scan.proofs.feed_at.Lts as lts
-use Rattle.scan.proofs.feed_bytewise.Reads as feed-bytewise-reads
-use Rattle.scan.proofs.feed_near.Reads as feed-near-reads
-use Rattle.scan.proofs.first_near.Reads as first-near-reads
 
 ruleset laws = (refl, scan-end, feed-far, feed-least, feed-from)
 

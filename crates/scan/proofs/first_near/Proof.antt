@@ -3,10 +3,6 @@ use Rattle.scan.proofs.LineLaws.{Least, least-none, least-more, least-a
 use Rattle.scan.proofs.first_near.Statement.{statement}
 use Rattle.scan.proofs.first_near.Tie as tie
 use borrow.Author.Needs.{needs}
-use Rattle.scan.proofs.first_near.Reads as reads
-use Rattle.scan.proofs.first_near.Lts as lts
-use Rattle.scan.proofs.least.Reads as least-reads
-use Rattle.scan.proofs.place_of.Reads as place-of-reads
 
 ruleset laws = (least-none, least-more, least-all)
 

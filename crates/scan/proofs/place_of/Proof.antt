@@ -2,8 +2,6 @@ use Rattle.scan.proofs.LineLaws.{place-feed, place-other}
 use Rattle.scan.proofs.place_of.Statement.{statement}
 use Rattle.scan.proofs.place_of.Tie as tie
 use borrow.Author.Needs.{needs}
-use Rattle.scan.proofs.place_of.Reads as reads
-use Rattle.scan.proofs.place_of.Lts as lts
 
 ruleset laws = (place-feed, place-other)
 

@@ -2,9 +2,6 @@ use Rattle.text_dump_line.proofs.LineLaws.{no-whole, ascii-whole}
 use borrow.Author.Needs.{needs}
 use Rattle.text_dump_line.proofs.is_whole.Statement.{statement}
 use Rattle.text_dump_line.proofs.is_whole.Tie as tie
-use Rattle.text_dump_line.proofs.is_whole.Reads as reads
-use Rattle.text_dump_line.proofs.is_whole.Lts as lts
-use Rattle.columns.proofs.are_rising.Reads as are-rising-reads
 
 ruleset laws = (no-whole, ascii-whole)
 
