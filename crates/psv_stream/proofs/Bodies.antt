@@ -30,15 +30,16 @@ use Rattle.text_dump.specs.declared.State.{State}
 use Rattle.text_dump.proofs.Remembered.{the-type}
 use Rattle.text_dump.proofs.StateLaws.{plain-stored, moved-cursor}
 use Rattle.text_dump.proofs.LineLaws.{turned-moved, spoilt-anywhere, fine-wrapped, fine-route, unreadable-line, passed-line, wrapped-line, other-route, yielding-route, long-route}
+use Rattle.input.specs.Input.{Fronts}
+use Rattle.input.specs.declared.Front.{Front}
+use Rattle.input.specs.declared.Front.the-variants as front
 use Rattle.packed.specs.Packed.{rememberedIn}
 use Rattle.packed.specs.declared.Packed.{Packed}
 use Rattle.psv_stream.specs.Printed.{body, refusalText, refuse, printedElement, answered, after, nextOf}
 use Rattle.psv_stream.specs.Run.{Runs}
-use Rattle.psv_stream.specs.Parts.{Puts, acts, Fronts, Steps, Came, elementFor, routed, PutRoute, frontOf, Begins, keptLen, stateOf, phaseOf, stepOf, Fine, Kept, Keeps, BodyDoes}
+use Rattle.psv_stream.specs.Parts.{Puts, acts, Steps, Came, elementFor, routed, PutRoute, frontOf, Begins, keptLen, stateOf, phaseOf, stepOf, Fine, Kept, Keeps, BodyDoes}
 use Rattle.psv_stream.specs.declared.Phase.{Phase}
 use Rattle.psv_stream.specs.declared.Phase.the-variants.{Body, Stopped}
-use Rattle.psv_stream.specs.declared.Front.{Front}
-use Rattle.psv_stream.specs.declared.Front.the-variants as front
 use Rattle.psv_stream.specs.declared.Ran.{Ran}
 use Rattle.psv_stream.specs.declared.RoutePut.{RoutePut}
 use Rattle.psv_stream.specs.declared.RoutePut.the-variants as route

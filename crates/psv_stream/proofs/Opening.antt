@@ -28,7 +28,7 @@ use Rattle.text_dump.specs.declared.State.{State}
 use Rattle.text_dump.proofs.Demand3.{Accepted}
 use Rattle.psv_stream.specs.Printed.{body, feed, after, onLine, printedFrom}
 use Rattle.psv_stream.specs.Printed as P
-use Rattle.psv_stream.proofs.Fronts.{first, first-single, first-then}
+use Rattle.input.proofs.Fronts.{first, first-single, first-then}
 
 -- the first line, and the lines behind it
 split : (s : List ℕ) (l : List ℕ) (ls : List (List ℕ)) → lines s ≡ l ∷ ls → (l ≡ first s) × (ls ≡ lines (drop (length l) s)) × (0 < length l) × (length l ≤ length s) × (lines l ≡ l ∷ [])

@@ -9,14 +9,15 @@ use lib.Seq.{drop-drop, drop-append-le, take-append-le, take-add}
 use borrow.Author.Tests.{lt-ltb, le-ltb}
 use Rattle.scan.specs.Lines.{lines, lineEnd}
 use Rattle.scan.proofs.LineLaws.{line-at, lineEnd-inside, lineEnd-after, no-lines}
+use Rattle.input.specs.Input.{Later, Fronts}
+use Rattle.input.specs.declared.Front.{Front}
+use Rattle.input.specs.declared.Front.the-variants as front
 use Rattle.psv_stream.specs.Printed.{header, stopped, onLine, atEnd, printedFrom}
 use Rattle.psv_stream.specs.Printed as P
-use Rattle.psv_stream.specs.Run.{headerBytes, stageOf, rest, Later}
-use Rattle.psv_stream.specs.Parts.{Puts, Fronts, acts, Ends, longText, TooLong, Does, Steps}
+use Rattle.psv_stream.specs.Run.{headerBytes, stageOf, rest}
+use Rattle.psv_stream.specs.Parts.{Puts, acts, Ends, longText, TooLong, Does, Steps}
 use Rattle.psv_stream.specs.declared.Phase.{Phase}
 use Rattle.psv_stream.specs.declared.Phase.the-variants.{Path, Header, Body, Stopped}
-use Rattle.psv_stream.specs.declared.Front.{Front}
-use Rattle.psv_stream.specs.declared.Front.the-variants as front
 use Rattle.psv_stream.specs.declared.Step.{Step}
 use Rattle.psv_stream.specs.declared.Step.the-variants as step
 use Rattle.psv_stream.proofs.Texts.{put-text, put-behind}

@@ -1,4 +1,4 @@
--- For the parts of a run: the line that comes next, what it comes to, and what is written of it.
+-- For the parts of a run: what the line comes to that comes next, and what is written of it.
 use Prim.Native.Nat.{ℕ, _+_, _-_, _≤_, _<_}
 use mathlib.Core.Path.{_≡_}
 use mathlib.Core.Bool.{Bool, true, false, cond}
@@ -7,7 +7,7 @@ use lib.ListN.{length, take, drop}
 use lib.Dec.{leb}
 use Rattle.output.specs.declared.Put.{Put}
 use Rattle.output.specs.declared.Put.the-variants as written
-use Rattle.scan.specs.Lines.{lines, lineEnd}
+use Rattle.input.specs.Input.{Starved}
 use Rattle.network.specs.declared.NetworkPrefix.{NetworkPrefix}
 use Rattle.elem.specs.Element.{spoilt as spoiltElement}
 use Rattle.elem.specs.declared.Element.{Element}
@@ -30,8 +30,6 @@ use Rattle.psv_stream.specs.Printed.{header, stopped, feed}
 use Rattle.psv_stream.specs.Printed as P
 use Rattle.psv_stream.specs.declared.Phase.{Phase}
 use Rattle.psv_stream.specs.declared.Phase.the-variants.{Path, Header, Body, Stopped}
-use Rattle.psv_stream.specs.declared.Front.{Front}
-use Rattle.psv_stream.specs.declared.Front.the-variants as front
 use Rattle.psv_stream.specs.declared.PlainPath.{PlainPath}
 use Rattle.psv_stream.specs.declared.PlainPath.the-variants as plainPath
 use Rattle.psv_stream.specs.declared.Step.{Step}
@@ -42,16 +40,7 @@ use Rattle.psv_stream.specs.declared.RoutePut.the-variants as route
 use Rattle.psv_stream.specs.declared.Place.{Place}
 use Rattle.psv_stream.specs.declared.BodyStep.{BodyStep}
 use Rattle.psv_stream.specs.declared.BodyStep.the-variants as bodyStep
-use Rattle.psv_stream.specs.Run.{headerBytes, stageOf, Later, Prints, Starved}
-
--- the line that comes next
-abbrev pub Fronts : List ℕ → ℕ → Bool → Front → Type 0
-Fronts s at ended (front.Line e) =
-    (at < e) × (e ≤ length s) × (e ≤ 65536)
-    × ((later : List ℕ) → Later ended later → lines (drop at (s ++ later)) ≡ take (e - at) (drop at s) ∷ lines (drop e s ++ later))
-Fronts s at ended front.TooLong = (at < length s) × ((later : List ℕ) → 65536 < lineEnd (s ++ later) at)
-Fronts s at ended front.Nothing = (ended ≡ true) × (length s ≤ at)
-Fronts s at ended front.Starved = Starved s at ended
+use Rattle.psv_stream.specs.Run.{headerBytes, stageOf, Prints}
 
 -- what a line comes to that is not too long; of a header line, the text with all before it
 abbrev pub acts : Phase → List ℕ → P.Step

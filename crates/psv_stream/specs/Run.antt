@@ -1,13 +1,12 @@
 -- A run of table2psv over the bytes at hand, of which there may be more to come.
-use Prim.Native.Nat.{ℕ, _+_, _-_, _≤_, _<_}
+use Prim.Native.Nat.{ℕ, _-_, _≤_, _<_}
 use mathlib.Core.Path.{_≡_}
-use mathlib.Core.Bool.{Bool, true, false, cond, _&&_}
+use mathlib.Core.Bool.{Bool, true, false}
 use mathlib.Core.List.{List, [], _++_}
 use mathlib.Core.Logic.{_⊎_}
 use lib.ListN.{length, take, drop}
-use lib.Dec.{leb}
-use Rattle.scan.specs.Lines.{lines, isFeed}
-use Rattle.scan.specs.Lists.{anyOf}
+use Rattle.scan.specs.Lines.{lines}
+use Rattle.input.specs.Input.{Later, Starved}
 use Rattle.psv_stream.specs.Printed.{Stage, path, header, body, stopped, printedFrom}
 use Rattle.psv_stream.specs.declared.Phase.{Phase}
 use Rattle.psv_stream.specs.declared.Phase.the-variants.{Path, Header, Body, Stopped}
@@ -30,17 +29,9 @@ stageOf Stopped s = stopped
 unfoldable pub rest : Phase → List ℕ → List ℕ
 rest p s = printedFrom (stageOf p s) (lines (drop (headerBytes p) s))
 
--- what may come later: nothing, where the input has ended
-abbrev pub Later : Bool → List ℕ → Type 0
-Later ended later = ended ≡ true → later ≡ []
-
 -- a text is what is printed between two places, whatever comes later
 abbrev pub Prints : Bool → Phase → List ℕ → List ℕ → Phase → List ℕ → Type 0
 Prints ended p s text q t = (later : List ℕ) → Later ended later → rest p (s ++ later) ≡ text ++ rest q (t ++ later)
-
--- more input is wanted: it has not ended, there is no whole line from `at` on, and a line that is too long would be seen
-abbrev pub Starved : List ℕ → ℕ → Bool → Type 0
-Starved s at ended = (ended ≡ false) × (anyOf isFeed (drop at s) ≡ false) × (at ≤ 65536 → length s ≤ 65536)
 
 -- what a run answers and leaves in the lent list: the text first, and then what stood there
 pub record Runs (p : Phase) (s : List ℕ) (ended : Bool) (out : List ℕ) (r : Ran) (new : List ℕ) : Type 0 where
@@ -51,13 +42,3 @@ pub record Runs (p : Phase) (s : List ℕ) (ended : Bool) (out : List ℕ) (r : 
   -- it goes on as long as it can: it stops for want of input, or of room for a line, or where all is printed
   pub wants-input : r .starved ≡ true → Starved (drop (r .consumed) s) (headerBytes (r .phase)) ended
   pub wants-room : r .starved ≡ false → (r .phase ≡ Stopped) ⊎ (length out - r .written < 65537)
-
--- the bytes from..end moved to the front, where there are such bytes
-abbrev pub isPart : ℕ → ℕ → List ℕ → Bool
-isPart from end s = leb from end && leb end (length s)
-
-unfoldable pub keptLength : ℕ → ℕ → List ℕ → ℕ
-keptLength from end s = cond (isPart from end s) (end - from) 0
-
-unfoldable pub kept : ℕ → ℕ → List ℕ → List ℕ
-kept from end s = let n = keptLength from end s in take n (drop from s) ++ drop n s

@@ -14,11 +14,12 @@ ghost use Rattle.text_dump.specs.State.{turned, spoilt};
 ghost use Rattle.text_dump.specs.declared.Remembered.the-variants as remembered;
 ghost use Rattle.text_dump.specs.Open.{openOf};
 ghost use Rattle.psv_stream.specs.Printed.{feed, refusalText, dated, scanned};
-ghost use Rattle.psv_stream.specs.Run.{headerBytes, Runs, keptLength, kept};
-ghost use Rattle.psv_stream.specs.Parts.{acts, isHead, frontOf, Puts, PutElement, IsPlain, Copies, PutRoute, PutCopy, Fine, Begins, keptLen, Kept, BodyDoes, Keeps, phaseOf, stepOf, Ends, TooLong, Does, Fronts, Steps, Heads};
+ghost use Rattle.psv_stream.specs.Run.{headerBytes, Runs};
+ghost use Rattle.psv_stream.specs.Parts.{acts, isHead, frontOf, Puts, PutElement, IsPlain, Copies, PutRoute, PutCopy, Fine, Begins, keptLen, Kept, BodyDoes, Keeps, phaseOf, stepOf, Ends, TooLong, Does, Steps, Heads};
 ghost use Rattle.psv_stream.specs.declared.Phase.the-variants as phase;
 use elem::Element;
 use elem::OptAsn;
+use input::Front;
 use network::NetworkPrefix;
 use output::Put;
 use packed::Packed;
@@ -44,42 +45,11 @@ pub enum Phase {
     Stopped,
 }
 
-// A line that comes next, with its end.
-enum Front {
-    Line(usize),
-    TooLong,
-    Nothing,
-    Starved,
-}
-
 // What a line comes to: how many bytes are consumed, how many are written, and the new phase; or the last bytes that are written.
 enum Step {
     Took(usize, usize, Phase),
     Stops(usize),
     Starved,
-}
-
-// The line that starts at a place.
-fn line_at(input: &[u8], at: usize, ended: bool) -> Front
-    ensures { λ r. ⌜ Fronts (now (input .entry)) at ended r ⌝ }
-{
-    if input.len() <= at {
-        if ended {
-            return Front::Nothing;
-        }
-        return Front::Starved;
-    }
-    let end = scan::line_end(input, at);
-    if 65536 < end {
-        return Front::TooLong;
-    }
-    if ended {
-        return Front::Line(end);
-    }
-    if input[end - 1] == b'\n' {
-        return Front::Line(end);
-    }
-    Front::Starved
 }
 
 fn refuse(number: u64, line: u64, out: &mut [u8]) -> usize
@@ -211,7 +181,7 @@ fn take_line(phase: Phase, input: &[u8], ended: bool, out: &mut [u8]) -> Step
     requires { ⌜ isHead phase ≡ true ⌝ }
     ensures { λ r. ⌜ Steps phase (now (input .entry)) ended (now (out .entry)) (now (out .exit)) r ⌝ }
 {
-    let front = line_at(input, header_bytes(phase), ended);
+    let front = input::line_at(input, header_bytes(phase), ended);
     match front {
         Front::Starved => Step::Starved,
         Front::Nothing => Step::Stops(end(phase, out)),
@@ -602,7 +572,7 @@ fn take_body_line(
     ensures { λ r. ⌜ Steps (phaseOf state b) (now (input .entry)) ended (now (out .entry)) (now (out .exit)) (stepOf state r) ⌝ }
     ensures { λ r. ⌜ Keeps state (now (start .exit)) «front_len» r ⌝ }
 {
-    let front = line_at(input, 0, ended);
+    let front = input::line_at(input, 0, ended);
     match front {
         Front::Starved => BodyStep::Starved,
         Front::Nothing => BodyStep::Stops(0),
@@ -744,23 +714,4 @@ pub fn run(phase: Phase, input: &[u8], ended: bool, out: &mut [u8]) -> Ran
         written: written + body.written,
         starved: body.starved,
     }
-}
-
-// Moves the bytes from..end to the front, for more input to come behind them: how many they are.
-pub fn keep(bytes: &mut [u8], from: usize, end: usize) -> usize
-    ensures { λ r. ⌜ (r ≡ keptLength from end (now (bytes .entry))) × (now (bytes .exit) ≡ kept from end (now (bytes .entry))) ⌝ }
-{
-    if end < from {
-        return 0;
-    }
-    if bytes.len() < end {
-        return 0;
-    }
-    let n = end - from;
-    let mut i = 0;
-    while i < n {
-        bytes[i] = bytes[from + i];
-        i += 1;
-    }
-    n
 }

@@ -125,7 +125,7 @@ fn run(d: Driven, bytes: &[u8], room: usize, out: &mut [u8]) -> Ran {
 fn step(d: Driven, bytes: &mut [u8], room: usize, out: &mut [u8]) -> Driven {
     let ran = run(d, bytes, room, out);
     let phase = ran.phase;
-    let filled = psv_stream::keep(bytes, ran.consumed, d.filled);
+    let filled = input::keep(bytes, ran.consumed, d.filled);
     Driven {
         phase,
         come: d.come,

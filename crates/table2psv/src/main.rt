@@ -51,7 +51,7 @@ fn print(t: Turn, input: &mut [u8], out: &mut [u8]) -> Turn {
     if io::write_all(STDOUT_FILENO, first(out, ran.written)) {
         return Turn {
             phase: next,
-            filled: psv_stream::keep(input, consumed, filled),
+            filled: input::keep(input, consumed, filled),
             starved: ran.starved,
             ended,
         };

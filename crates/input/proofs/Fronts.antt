@@ -10,8 +10,8 @@ use borrow.Author.Tests.{eq-eqb, eqb-true}
 use Rattle.scan.specs.Lists.{onto, anyOf}
 use Rattle.scan.specs.Lines.{isFeed, lines, lineEnd, Line-at}
 use Rattle.scan.proofs.LineLaws.{line-at, lineEnd-inside, lineEnd-after}
-use Rattle.psv_stream.specs.Parts.{Fronts}
-use Rattle.psv_stream.specs.declared.Front.the-variants as front
+use Rattle.input.specs.Input.{Fronts}
+use Rattle.input.specs.declared.Front.the-variants as front
 
 -- the first line of a text
 abbrev pub first : List ℕ → List ℕ

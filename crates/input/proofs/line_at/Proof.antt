@@ -1,7 +1,7 @@
-use Rattle.psv_stream.proofs.Fronts.{none-front, no-more, line-some, line-last, long-front, ended-front, feed-front, part-front}
+use Rattle.input.proofs.Fronts.{none-front, no-more, line-some, line-last, long-front, ended-front, feed-front, part-front}
 use borrow.Author.Needs.{needs}
-use Rattle.psv_stream.proofs.line_at.Statement.{statement}
-use Rattle.psv_stream.proofs.line_at.Tie as tie
+use Rattle.input.proofs.line_at.Statement.{statement}
+use Rattle.input.proofs.line_at.Tie as tie
 
 returns : tie.Need-returns
 returns c = search none-front

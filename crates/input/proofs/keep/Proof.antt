@@ -3,9 +3,9 @@ use mathlib.Core.Path.{_≡_}
 use lib.ListN.{length, drop}
 use lib.Seq.{paste}
 use borrow.Author.Needs.{needs}
-use Rattle.psv_stream.proofs.Runs.{no-part-back, no-part-inside, moved-next, moved-all}
-use Rattle.psv_stream.proofs.keep.Statement.{statement}
-use Rattle.psv_stream.proofs.keep.Tie as tie
+use Rattle.input.proofs.Keeping.{no-part-back, no-part-inside, moved-next, moved-all}
+use Rattle.input.proofs.keep.Statement.{statement}
+use Rattle.input.proofs.keep.Tie as tie
 
 abbrev Inv-loop : tie.InvT-loop
 Inv-loop bytes₀ from end n i₀ bytes i = (i ≤ n) × (length bytes ≡ length bytes₀) × (bytes ≡ paste bytes₀ 0 (drop from bytes₀) i)
