@@ -17,7 +17,7 @@ use Rattle.input.specs.declared.Front.the-variants as front
 abbrev pub first : List ℕ → List ℕ
 first s = headD (lines s) []
 
-first-cons : (b : ℕ) (s : List ℕ) → first (b ∷ s) ≡ cond (isFeed b) (b ∷ []) (b ∷ first s)
+pub first-cons : (b : ℕ) (s : List ℕ) → first (b ∷ s) ≡ cond (isFeed b) (b ∷ []) (b ∷ first s)
 unfolding lines headD onto
 first-cons b s = go (isFeed b) (lines s)
   where
