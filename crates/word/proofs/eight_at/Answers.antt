@@ -1,0 +1,8 @@
+-- `word::eight_at` meets its contract. Assumes nothing.
+use native.Mathlib.Omega.{arith}
+use Rattle.word.proofs.At.{added}
+use borrow.Author.Rules.{rules}
+use Rattle.word.proofs.eight_at.Goals as goal
+
+pub returns : goal.returns
+returns c = omega (arith, added c.args.s.now c.args.at c.requires)
