@@ -1,4 +1,6 @@
 // The AS path of aspath.rs, as a record in lent lists.
+#![tactic(auto)]
+
 ghost use Rattle.std.specs.Prelude.{◌≡◌, ◌≤◌, ◌<◌, length, false, ltb};
 ghost use Rattle.aspath.specs.Lists.{any, sum};
 ghost use Rattle.aspath.specs.Record.{spoilt, segments_of, path};

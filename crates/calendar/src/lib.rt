@@ -1,4 +1,6 @@
 // The Gregorian calendar: which dates there are, and how many days lie before them, counted from 0000-01-01.
+#![tactic(auto)]
+
 ghost use Rattle.std.specs.Prelude.{◌≡◌, ◌≤◌, ◌<◌};
 ghost use Rattle.calendar.specs.Calendar.{is_leap, year_length, month_length, total, days_of};
 

@@ -1,4 +1,6 @@
 // Decimal numbers, read as 01 says.
+#![tactic(auto)]
+
 ghost use Rattle.std.specs.Prelude.{◌≡◌, map, ℕ, ◌≤◌, ◌<◌, length, get_or};
 ghost use Rattle.word.specs.Word.{number, little_endian};
 ghost use Rattle.decimal.specs.Decimal.{read_digits, read_u32, read_u64, behind, leading, or_zero, digits_at, first_digits, mark, placed};

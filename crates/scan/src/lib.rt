@@ -1,4 +1,6 @@
 // Byte-wise scanning: lines, words, comparison and search.
+#![tactic(auto)]
+
 ghost use Rattle.std.specs.Prelude.{◌≡◌, cond, ◌+◌, ◌≤◌, ◌<◌, min, length, take, drop};
 ghost use Rattle.scan.specs.Lists.{any_of, take_while, end_while};
 ghost use Rattle.scan.specs.Lines.{is_feed, not_feed, line_end};

@@ -1,4 +1,6 @@
 // UTF-8 (RFC 3629): characters, their edges, and the slices between edges.
+#![tactic(auto)]
+
 ghost use Rattle.std.specs.Prelude.{◌≡◌, ◌+◌, ◌≤◌, get_or, length, take, drop};
 ghost use Rattle.utf8.specs.Utf8.{is_one, is_tail, is_two, is_three, is_four, char_len, all, readable};
 ghost use Rattle.utf8.specs.Edge.{is_edge, has_slice};

@@ -1,0 +1,35 @@
+use mathlib.Core.Path.{◌≡◌}
+use mathlib.Core.Bool.{false, ◌||◌, or_assoc, or-false}
+use Prim.Native.Nat.{◌-◌, ◌≤◌}
+use lib.ListN.{drop}
+use Rattle.aspath.specs.Record.{segments_of}
+use Rattle.aspath.specs.Queries.{no_route, empty_set}
+use Rattle.aspath.proofs.Record.{kind_there, length_there, shape_more, shape_end}
+use borrow.Author.Rules.{rules}
+use Rattle.aspath.proofs.has_empty_set.Goals as goal
+
+ruleset laws = (kind_there, length_there)
+
+pub loop-i-init : goal.loop-i-init
+loop-i-init c = search (laws, rules)
+
+pub bounds-kinds-i : goal.bounds-kinds-i
+bounds-kinds-i c = search (laws, rules)
+
+pub offset_bounds-lengths-i : goal.offset_bounds-lengths-i
+offset_bounds-lengths-i c = search (laws, rules)
+
+pub bounds-lengths-i : goal.bounds-lengths-i
+bounds-lengths-i c = search (laws, rules)
+
+pub overflow_add-i : goal.overflow_add-i
+overflow_add-i c = search (laws, rules)
+
+pub loop-i-smaller : goal.loop-i-smaller
+loop-i-smaller c = search (laws, rules)
+
+pub loop-i-preserved : goal.loop-i-preserved
+loop-i-preserved c = (search rules, search (shape_more _ _ _ _ _ c.requires ◌||◌ false or_assoc or-false empty_set))
+
+pub returns : goal.returns
+returns c = search (shape_end _ _ _ _ _ c.requires ◌||◌ false or_assoc or-false empty_set)

@@ -1,0 +1,13 @@
+use mathlib.Core.Path.{◌≡◌}
+use Prim.Native.Nat.{◌-◌, ◌^◌, ◌≤◌, ◌<◌}
+use lib.ListN.{length, drop}
+use Rattle.decimal.specs.Decimal.{behind, digits}
+use Rattle.decimal.proofs.Reading.{no_digit, start, few_end, low, high, more, few_more, few_sum, few_product}
+use borrow.Author.Rules.{rules}
+use Rattle.decimal.proofs.few_digits.Given as goal
+
+abbrev pub invariant-loop-i : goal.invariant-loop-i
+invariant-loop-i l = (l.i ≤ length l.s) × (l.v < 10 ^ l.i) × (digits l.s ≡ behind l.v (drop l.i l.s))
+
+abbrev pub decreases-loop-i : goal.decreases-loop-i
+decreases-loop-i l = length l.s - l.i

@@ -1,0 +1,13 @@
+use mathlib.Core.Path.{◌≡◌}
+use Prim.Native.Nat.{◌≤◌, ◌<◌, ◌-◌, ◌^◌}
+use lib.ListN.{length, drop}
+use borrow.Author.Rules.{rules}
+use Rattle.decimal.specs.Decimal.{behind, digits}
+use Rattle.decimal.proofs.Reading.{no_digit, start, at_end_lem, low, high, more, over_tens, over_ones}
+use Rattle.decimal.proofs.many_digits.Given as goal
+
+abbrev pub invariant-loop-i : goal.invariant-loop-i
+invariant-loop-i l = (l.i ≤ length l.s) × (l.v < 2 ^ 64) × (digits l.s ≡ behind l.v (drop l.i l.s))
+
+abbrev pub decreases-loop-i : goal.decreases-loop-i
+decreases-loop-i l = length l.s - l.i

@@ -1,0 +1,13 @@
+use mathlib.Core.Path.{◌≡◌}
+use Prim.Native.Nat.{◌-◌, ◌≤◌}
+use lib.ListN.{length}
+use lib.Seq.{paste, paste-zero}
+use Rattle.output.proofs.Output.{eight_more, eight_last}
+use borrow.Author.Rules.{rules}
+use Rattle.output.proofs.copy_many.Given as goal
+
+abbrev pub invariant-loop-i : goal.invariant-loop-i
+invariant-loop-i l = (length l.out ≡ length l.initial.out) × (l.i ≤ l.n) × (l.out ≡ paste l.initial.out l.at l.text l.i)
+
+abbrev pub decreases-loop-i : goal.decreases-loop-i
+decreases-loop-i l = l.last - l.i

@@ -1,0 +1,7 @@
+use native.Mathlib.Omega.{arith}
+use Rattle.output.proofs.Output.{four_added}
+use borrow.Author.Rules.{rules}
+use Rattle.output.proofs.four_at.Goals as goal
+
+pub returns : goal.returns
+returns c = omega (arith, four_added c.args.s.now c.args.at c.requires)

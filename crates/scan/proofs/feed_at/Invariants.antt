@@ -1,0 +1,15 @@
+use mathlib.Core.Path.{◌≡◌, refl}
+use Prim.Native.Nat.{◌-◌, ◌≤◌}
+use lib.ListN.{length}
+use Rattle.scan.specs.Lists.{end_while}
+use Rattle.scan.specs.Lines.{not_feed}
+use Rattle.scan.proofs.ListLaws.{scan_end}
+use Rattle.scan.proofs.LineLaws.{feed_far, feed_least, feed_from}
+use borrow.Author.Rules.{rules}
+use Rattle.scan.proofs.feed_at.Given as goal
+
+abbrev pub invariant-loop-i : goal.invariant-loop-i
+invariant-loop-i l = (l.i ≤ length l.s) × (end_while not_feed l.s l.at ≡ end_while not_feed l.s l.i)
+
+abbrev pub decreases-loop-i : goal.decreases-loop-i
+decreases-loop-i l = length l.s - l.i

@@ -1,0 +1,30 @@
+use mathlib.Core.Path.{◌≡◌}
+use Prim.Native.Nat.{◌-◌, ◌≤◌}
+use lib.ListN.{take, drop}
+use Rattle.utf8.specs.Utf8.{is_one, all}
+use Rattle.utf8.proofs.ReadableLaws.{seen_none, near_next, near_all}
+use borrow.Author.Rules.{rules}
+use Rattle.utf8.proofs.ascii_near.Goals as goal
+
+ruleset laws = (seen_none, near_next, near_all)
+
+pub loop-k-init : goal.loop-k-init
+loop-k-init c = search (laws, rules)
+
+pub overflow_add-ascii : goal.overflow_add-ascii
+overflow_add-ascii c = search (laws, rules)
+
+pub bounds-s-at : goal.bounds-s-at
+bounds-s-at c = search (laws, rules)
+
+pub overflow_add-k : goal.overflow_add-k
+overflow_add-k c = search (laws, rules)
+
+pub loop-k-smaller : goal.loop-k-smaller
+loop-k-smaller c = search (laws, rules)
+
+pub loop-k-preserved : goal.loop-k-preserved
+loop-k-preserved c = search (laws, rules)
+
+pub returns : goal.returns
+returns c = search (laws, rules)

@@ -1,0 +1,5 @@
+use borrow.Author.Rules.{rules}
+use Rattle.utf8.proofs.has_slice.Goals as goal
+
+pub returns : goal.returns
+returns c = cc
