@@ -94,8 +94,8 @@ class Proof:
                     if p and norm(p[2][0]) == norm(first):
                         parts[0] = p[2][1]
                     else:
-                        # maybe a step further back
-                        q = place_here
+                        # a step of that name anywhere on the way to the goal
+                        q = place
                         found = None
                         while q:
                             p = self.places.get(q)

@@ -1,4 +1,6 @@
 // Which numbers a path has: whether one is among them, the last one (its origin), the first one (its collector).
+#![tactic(auto)]
+
 ghost use Rattle.std.specs.Prelude.{◌≡◌, false, eqb};
 ghost use Rattle.aspath.specs.Lists.{any};
 ghost use Rattle.aspath.specs.Record.{spoilt, path};

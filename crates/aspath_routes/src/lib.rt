@@ -1,4 +1,6 @@
 // A path's numbers written into lent places.
+#![tactic(auto)]
+
 ghost use Rattle.std.specs.Prelude.{◌≡◌, false, [], ◌∷◌, length};
 ghost use Rattle.output.specs.Output.{Written};
 ghost use Rattle.aspath.specs.Record.{spoilt, segments_of, path};

@@ -1,4 +1,6 @@
 // Decimal numbers printed.
+#![tactic(auto)]
+
 ghost use Rattle.std.specs.Prelude.{◌≡◌, ◌+◌, ◌≤◌, ◌<◌, length};
 ghost use Rattle.decimal_display.specs.Printed.{decimal, two, four, difference};
 ghost use Rattle.output.specs.Output.{Written, front, answer};

@@ -1,4 +1,6 @@
 // Words of 64 bits as bytes, the lowest byte first: eight bytes to a word.
+#![tactic(auto)]
+
 ghost use Rattle.std.specs.Prelude.{◌≡◌, cond, ◌*◌, ◌≤◌, length, leb};
 ghost use Rattle.output.specs.Output.{front, answer};
 ghost use Rattle.word.specs.Word.{little_endian, number};

@@ -4,7 +4,6 @@ use mathlib.Core.List.{List, [], ◌∷◌, ◌++◌, append_assoc, flatten}
 use Prim.Native.Nat.{ℕ, zero, suc, ◌-◌, ◌≤◌, ◌<◌, max}
 use native.Mathlib.Omega.{arith}
 use lib.ListN.{length, take, drop, take-append-drop, length-append, length-take}
-use borrow.Author.Rules.{zero≤}
 use lib.Seq.{take_at, drop_at, take-append-le, length-take-le}
 use Rattle.utf8.specs.Utf8.{char_len, piece_len, chars_from, chars}
 use Rattle.utf8.proofs.ListLaws.{flatten_append}
@@ -46,7 +45,7 @@ flatten_chars s = go s 0
 -- a text parted in front of a byte that is no UTF8-tail: the characters of both parts
 pub chars_append : (q w : List ℕ) → Begins w → chars (q ++ w) ≡ chars q ++ chars w
 unfolding chars_from
-chars_append q w t = go q 0 zero≤
+chars_append q w t = go q 0 (omega arith)
   where
     go : (q : List ℕ) (n : ℕ) → n ≤ length q → chars_from n (q ++ w) ≡ chars_from n q ++ chars w
     go [] zero h = refl

@@ -29,7 +29,7 @@ pub overflow_add-result : goal.overflow_add-result
 overflow_add-result c = search (laws, rules)
 
 pub returns-then-feed_near : goal.returns-then-feed_near
-returns-then-feed_near c = search (laws, rules)
+returns-then-feed_near c = search (feed_least, rules)
 
 pub overflow_add-i : goal.overflow_add-i
 overflow_add-i c = search (laws, rules)

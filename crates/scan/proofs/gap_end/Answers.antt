@@ -20,7 +20,7 @@ pub is_gap-requires : goal.is_gap-requires
 is_gap-requires c = search (laws, rules)
 
 pub returns-then-not-is_gap : goal.returns-then-not-is_gap
-returns-then-not-is_gap c = search (laws, rules)
+returns-then-not-is_gap c = search (gap_stops, rules)
 
 pub overflow_add-i : goal.overflow_add-i
 overflow_add-i c = search (laws, rules)

@@ -1,0 +1,12 @@
+use Prim.Native.Nat.{◌-◌}
+use native.Mathlib.Omega.{arith}
+use lib.ListN.{length, length-set}
+use Rattle.aspath_normal.proofs.Sets.{Singling, none_single, singled, all_single}
+use borrow.Author.Rules.{rules}
+use Rattle.aspath_normal.proofs.single_sets.Given as goal
+
+abbrev pub invariant-loop-i : goal.invariant-loop-i
+invariant-loop-i l = Singling l.initial.kinds l.lengths l.kinds l.i
+
+abbrev pub decreases-loop-i : goal.decreases-loop-i
+decreases-loop-i l = length l.kinds - l.i

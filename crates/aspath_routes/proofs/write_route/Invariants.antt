@@ -1,0 +1,19 @@
+use mathlib.Core.Path.{◌≡◌}
+use Prim.Native.Nat.{◌-◌, ◌≤◌}
+use lib.ListN.{length, drop}
+use Rattle.output.proofs.Output.{Left, all_left}
+use Rattle.aspath.specs.Record.{segments_of}
+use Rattle.aspath.proofs.Record.{kind_there, length_there}
+use Rattle.aspath.proofs.Walk.{Place, place_start, place_next, numbers_end, place_fits, length_fits, end_fits}
+use Rattle.aspath_routes.specs.Routes.{numbered}
+use Rattle.aspath_routes.proofs.Write.{route_more, route_end}
+use borrow.Author.Rules.{rules}
+use Rattle.aspath_routes.proofs.write_route.Given as goal
+
+abbrev pub invariant-loop-i : goal.invariant-loop-i
+invariant-loop-i l =
+    (l.i ≤ l.segments) × (length l.out ≡ length l.initial.out) × Place l.kinds l.lengths l.numbers l.segments l.count l.i l.from
+    × Left (numbered (segments_of l.kinds l.lengths l.numbers l.segments l.count) l.number) l.initial.out 0 (numbered (drop l.i (segments_of l.kinds l.lengths l.numbers l.segments l.count)) l.k) l.out l.place
+
+abbrev pub decreases-loop-i : goal.decreases-loop-i
+decreases-loop-i l = l.segments - l.i

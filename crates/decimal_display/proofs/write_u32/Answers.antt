@@ -1,0 +1,6 @@
+use Rattle.decimal_display.proofs.Printed.{more_than_four}
+use borrow.Author.Rules.{rules}
+use Rattle.decimal_display.proofs.write_u32.Goals as goal
+
+pub returns : goal.returns
+returns c = search more_than_four
