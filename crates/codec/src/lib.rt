@@ -14,14 +14,14 @@ use network::{Asn, IpAddr, NetworkPrefix};
 use seconds::TimestampRead;
 use text_dump::{Remembered, State};
 
-#[derive(Drop)]
+#[derive(Clone, Copy)]
 struct AddressWords {
     kind: u64,
     upper: u64,
     lower: u64,
 }
 
-#[derive(Drop)]
+#[derive(Clone, Copy)]
 struct RememberedWords {
     kind: u64,
     addr: AddressWords,
@@ -29,13 +29,13 @@ struct RememberedWords {
 }
 
 // What may be missing: 1 and its value, or 0 and 0.
-#[derive(Drop)]
+#[derive(Clone, Copy)]
 struct OptWords {
     known: u64,
     value: u64,
 }
 
-#[derive(Drop)]
+#[derive(Clone, Copy)]
 pub enum StateRead {
     State(State),
     Nothing,

@@ -12,21 +12,21 @@ use decimal::{DigitsRead, U32Read};
 use network::{AddressRead, IpAddr, NetworkPrefix, PrefixRead};
 
 // An octet, and the place behind its digits.
-#[derive(Drop)]
+#[derive(Clone, Copy)]
 enum OctetRead {
     Octet(u32, usize),
     Nothing,
 }
 
 // An address at the front of a text, and the place behind it.
-#[derive(Drop)]
+#[derive(Clone, Copy)]
 enum FrontRead {
     Address(u32, usize),
     Nothing,
 }
 
 // The length behind an address, and the place behind its digits.
-#[derive(Drop)]
+#[derive(Clone, Copy)]
 enum BitsRead {
     Bits(u8, usize),
     Nothing,

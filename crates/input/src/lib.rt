@@ -3,7 +3,7 @@ ghost use Rattle.std.specs.Prelude.{◌≡◌};
 ghost use Rattle.input.specs.Input.{Fronts, kept_length, kept};
 
 // A line that comes next, with its end.
-#[derive(Drop)]
+#[derive(Clone, Copy)]
 pub enum Front {
     Line(usize),
     TooLong,

@@ -1,4 +1,6 @@
 // IPv4 addresses, read from text as 01 says.
+#![tactic(auto)]
+
 ghost use Rattle.std.specs.Prelude.{◌≡◌, ◌+◌, ◌≤◌, length, drop};
 ghost use Rattle.std.proofs.Math.Option.{some};
 ghost use Rattle.decimal.specs.Decimal.{behind};

@@ -8,7 +8,7 @@ ghost use Rattle.ipv6.specs.Groups.{as_group, push as pushed, push_all, side_fro
 
 use ipv4::Ipv4Read;
 
-#[derive(Drop)]
+#[derive(Clone, Copy)]
 pub enum Ipv6Read {
     Address(u64, u64),
     Nothing,
@@ -39,7 +39,7 @@ fn hex_digit(b: u8) -> u8
     16
 }
 
-#[derive(Drop)]
+#[derive(Clone, Copy)]
 enum GroupRead {
     Group(u16),
     Nothing,
@@ -68,7 +68,7 @@ fn group(p: &[u8]) -> GroupRead
 }
 
 // How many groups are read, and the two halves that they make.
-#[derive(Drop)]
+#[derive(Clone, Copy)]
 struct Groups {
     n: usize,
     upper: u64,
@@ -97,7 +97,7 @@ fn push(r: Groups, g: u16) -> Groups
     }
 }
 
-#[derive(Drop)]
+#[derive(Clone, Copy)]
 enum SideRead {
     Side(Groups),
     Nothing,

@@ -11,7 +11,7 @@ use text_dump::Remembered;
 use text_dump_line::PrefixText;
 
 // 0 nothing, 1 invalid text, 2 a prefix; then the version of its address, 4 or 6, the address in two halves, and its length.
-#[derive(Drop)]
+#[derive(Clone, Copy)]
 pub struct Packed {
     pub kind: u64,
     pub version: u64,

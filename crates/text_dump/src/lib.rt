@@ -16,14 +16,14 @@ use path_text::AsnsPut;
 use text_dump_header::HeaderRead;
 use text_dump_line::{Line, PrefixText, RouteEntry};
 
-#[derive(Drop)]
+#[derive(Clone, Copy)]
 pub enum Remembered {
     Nothing,
     Invalid,
     Valid(NetworkPrefix),
 }
 
-#[derive(Drop)]
+#[derive(Clone, Copy)]
 pub struct State {
     pub columns: Columns,
     pub peer_ip: IpAddr,
@@ -34,7 +34,7 @@ pub struct State {
 }
 
 // The state, or a refusal; that of an unreadable line has the line's number.
-#[derive(Drop)]
+#[derive(Clone, Copy)]
 pub enum Opened {
     Table(State),
     NoTimestamp,
@@ -43,7 +43,7 @@ pub enum Opened {
 }
 
 // The state behind the element's line or at the part's end; in a refusal the one that was handed in.
-#[derive(Drop)]
+#[derive(Clone, Copy)]
 pub enum Next {
     Element(State, Element),
     End(State),

@@ -7,13 +7,13 @@ ghost use Rattle.timestamp.specs.Dates.{fits as fitsByte, has_shape, digit_befor
 use calendar::{Date, Days};
 use seconds::SecondRead;
 
-#[derive(Drop)]
+#[derive(Clone, Copy)]
 enum Place {
     At(usize),
     Nothing,
 }
 
-#[derive(Drop)]
+#[derive(Clone, Copy)]
 pub enum Inferred {
     Timestamp(f64),
     Nothing,
