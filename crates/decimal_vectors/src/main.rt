@@ -1,4 +1,6 @@
 // Runs the cases of `decimal` (data/cases.txt) and prints a line for each group.
+#![tactic(auto)]
+
 use cases::Tally;
 use decimal::{U32Read, U64Read};
 use output::Put;
