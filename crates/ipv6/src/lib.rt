@@ -1,4 +1,6 @@
 // IPv6 addresses, read from text as RFC 4291 and 01 say.
+#![tactic(auto)]
+
 ghost use Rattle.std.specs.Prelude.{◌≡◌, ◌+◌, ◌-◌, ◌≤◌, true, false, length, replicate};
 ghost use Rattle.std.proofs.Math.Option.{get_or};
 ghost use Rattle.ipv4.specs.Parts.{before};

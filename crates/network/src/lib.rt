@@ -1,4 +1,6 @@
 // Addresses and prefixes: their types, and reading them from text as 01 says.
+#![tactic(auto)]
+
 ghost use Rattle.std.specs.Prelude.{◌≡◌, ◌≤◌};
 ghost use Rattle.network.specs.Address.{read_address};
 ghost use Rattle.network.specs.Prefix.{last_place, length_of, length_for, as_length, read_prefix, valid_prefix};

@@ -1,4 +1,6 @@
 // The date in a file's path (`infer_timestamp_from_path`), and the moment that it names.
+#![tactic(auto)]
+
 ghost use Rattle.std.specs.Prelude.{◌≡◌, ◌+◌, ◌-◌, ◌≤◌, ◌<◌, length, get_or};
 ghost use Rattle.decimal.specs.Decimal.{is_digit};
 ghost use Rattle.seconds.specs.Seconds.{as_second};
