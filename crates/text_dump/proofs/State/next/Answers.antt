@@ -91,7 +91,7 @@ pub loop-at-smaller : goal.loop-at-smaller
 loop-at-smaller c = search (laws, rules)
 
 pub loop-at-preserved : goal.loop-at-preserved
-loop-at-preserved c = search (laws, rules)
+loop-at-preserved c = search (passes_route, c.in_default.not-Valid, laws, rules)
 
 pub moved-requires : goal.moved-requires
 moved-requires c = search (laws, rules)
