@@ -7,13 +7,19 @@ use Rattle.text_dump_header.specs.declared.HeaderRead.TheVariants.{Header}
 use Rattle.scan.specs.Lines.{lines}
 use Rattle.text_dump_header.specs.Header.{through, header_of, header_from, header}
 use Rattle.text_dump_header.proofs.HeaderLaws.{joined, scan_starts, scanned, text_ends, line_order, line_inside, line_unreadable, line_columns, line_passed}
--- where the ways out of the loop meet
 use Rattle.text_dump_header.proofs.parse_header.Goals as goal
+use Rattle.text_dump_header.proofs.parse_header.Goals.{then-met-eq64, else-met-eq64+then-at-text, else-met-eq64+else-at-text+else-not-is_readable+in-Found}
 
 ruleset laws = (scan_starts, scanned, text_ends, line_order, line_inside, line_unreadable, line_columns, line_passed)
 
-met : (c : goal.Joined-met-eq64) → Header (header_of c.if-met-eq64.p c.if-met-eq64.columns) c.if-met-eq64.at ≡ header c.args.text.now
-met c = ⊎_elim (λ w. search (joined, laws, rules)) (λ v. ⊎_elim (λ w. search (joined, laws, rules)) (λ w. search (joined, laws, rules)) v) c.if-met-eq64.branch
+-- where the ways out of the loop meet
+met : (c : goal.After-header_of) → Header (header_of c.if-met-eq64.p c.if-met-eq64.columns) c.if-met-eq64.at ≡ header c.args.text.now
+met c =
+    elim c.if-met-eq64.branch [
+      then-met-eq64 w ↦ search (joined, laws, rules)
+      | else-met-eq64+then-at-text w ↦ search (joined, laws, rules)
+      | else-met-eq64+else-at-text+else-not-is_readable+in-Found w ↦ search (joined, laws, rules)
+    ]
 
 pub lines-init : goal.lines-init
 lines-init c = search (laws, rules)
