@@ -1,4 +1,6 @@
 // A path printed as the Rust prints it.
+#![tactic(auto)]
+
 ghost use Rattle.std.specs.Prelude.{◌≡◌, true, false, [], ◌∷◌, ◌++◌, ◌≤◌, length};
 ghost use Rattle.decimal_display.specs.Printed.{decimal};
 ghost use Rattle.output.specs.Output.{Written};

@@ -1,4 +1,6 @@
 // The element that a route yields (01, Records), and whether one is spoilt.
+#![tactic(auto)]
+
 ghost use Rattle.std.specs.Prelude.{◌≡◌};
 ghost use Rattle.elem.specs.Element.{spoilt};
 

@@ -1,5 +1,7 @@
 // What stands in a column, with spaces around it: mostly an IPv4 address, a prefix, a number, or nothing. These are read where they stand, with no trimming
 // first; anything else is trimmed and read as any text is.
+#![tactic(auto)]
+
 ghost use Rattle.std.specs.Prelude.{◌≡◌, ◌+◌, ◌%◌, ◌≤◌, length, take, drop, ◌==◌};
 ghost use Rattle.utf8.specs.Utf8.{all};
 ghost use Rattle.text.specs.White.{trim as trimOf};

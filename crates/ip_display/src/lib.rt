@@ -1,4 +1,6 @@
 // IPv4 and IPv6 addresses as text: RFC 5952, as 01 says.
+#![tactic(auto)]
+
 ghost use Rattle.std.specs.Prelude.{◌≡◌, ◌-◌, ◌≤◌, ◌<◌, take, drop};
 ghost use Rattle.decimal_display.specs.Printed.{decimal};
 ghost use Rattle.output.specs.Output.{Written};

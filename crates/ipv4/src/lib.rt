@@ -7,14 +7,14 @@ ghost use Rattle.decimal.specs.Decimal.{behind};
 ghost use Rattle.ipv4.specs.Parts.{before};
 ghost use Rattle.ipv4.specs.Ipv4.{octet_at, read_ipv4};
 
-#[derive(Drop)]
+#[derive(Clone, Copy)]
 pub enum Ipv4Read {
     Address(u32),
     Nothing,
 }
 
 // An octet, and the place behind its digits.
-#[derive(Drop)]
+#[derive(Clone, Copy)]
 enum OctetRead {
     Octet(u32, usize),
     Nothing,

@@ -1,4 +1,6 @@
 // What the path's part of a line says: the AS numbers, and the origin.
+#![tactic(auto)]
+
 ghost use Rattle.std.specs.Prelude.{◌≡◌, true, cond, [], ◌∷◌, ◌++◌, ◌≤◌, length, drop, leb};
 ghost use Rattle.output.specs.Output.{front};
 ghost use Rattle.path_text.specs.Path.{last_token, letter, is_known, origin_of, asns_of, put_answer};

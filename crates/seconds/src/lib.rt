@@ -1,24 +1,26 @@
 // The timestamp that state and element hold: an f64 that counts whole seconds from 1970, from the year 0 to the year 9999.
 // Here a second is a u64 counted from the start of the year 0.
+#![tactic(auto)]
+
 ghost use Rattle.std.specs.Prelude.{◌≡◌, ◌≤◌, length};
 ghost use Rattle.output.specs.Output.{Written, front, answer};
 ghost use Rattle.seconds.specs.Seconds.{whole_number, as_magnitude, second_of, as_second, timestamp_of, is_timestamp, timestamp_of_bits, timestamp_text};
 
 use output::Put;
 
-#[derive(Drop)]
+#[derive(Clone, Copy)]
 enum Magnitude {
     Number(u64),
     Nothing,
 }
 
-#[derive(Drop)]
+#[derive(Clone, Copy)]
 pub enum SecondRead {
     Second(u64),
     Nothing,
 }
 
-#[derive(Drop)]
+#[derive(Clone, Copy)]
 pub enum TimestampRead {
     Timestamp(f64),
     Nothing,

@@ -156,7 +156,7 @@ pub fn trim(s: &[u8]) -> &[u8]
 }
 
 // A token's start and end.
-#[derive(Drop)]
+#[derive(Clone, Copy)]
 pub enum Token {
     At(usize, usize),
     Nothing,

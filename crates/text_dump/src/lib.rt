@@ -1,4 +1,6 @@
 // The reader of a table in parts: opening, next and turn, by a state that each call takes and hands back.
+#![tactic(auto)]
+
 ghost use Rattle.std.specs.Prelude.{◌≡◌, length, take};
 ghost use Rattle.plain_reader.specs.Rules.{replace};
 ghost use Rattle.text_dump.specs.State.{plain, valid_remembered, spoilt, turned, moved};

@@ -1,4 +1,6 @@
 // Is it a table, and what its preamble and column header say.
+#![tactic(auto)]
+
 ghost use Rattle.std.specs.Prelude.{◌≡◌, take};
 ghost use Rattle.text_dump_header.specs.Detect.{contains as containsOf, is_graphic, detect};
 ghost use Rattle.text_dump_header.specs.Preamble.{up_to, reads, version_text, router_in, router_text, local_as_text, preamble_line};

@@ -1,4 +1,6 @@
 // What one body line says.
+#![tactic(auto)]
+
 ghost use Rattle.std.specs.Prelude.{◌≡◌, true, length};
 ghost use Rattle.utf8.specs.Utf8.{is_one, all, readable};
 ghost use Rattle.utf8.specs.Edge.{has_slice};

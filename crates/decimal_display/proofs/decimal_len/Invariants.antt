@@ -2,9 +2,6 @@ use mathlib.Core.Path.{◌≡◌}
 use Prim.Native.Nat.{◌-◌, ◌^◌, ◌≤◌}
 use lib.ListN.{length}
 use Rattle.decimal_display.specs.Printed.{decimal}
-use Rattle.decimal_display.proofs.Printed.{length_pos, counted, more_digits, longest}
-use Rattle.decimal.proofs.Power.{power_fits, next_power}
-use borrow.Author.Rules.{rules}
 use Rattle.decimal_display.proofs.decimal_len.Given as goal
 
 abbrev pub invariant-loop-len : goal.invariant-loop-len

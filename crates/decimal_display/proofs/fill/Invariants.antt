@@ -1,11 +1,8 @@
 use mathlib.Core.Path.{◌≡◌}
 use mathlib.Core.List.{◌++◌}
 use Prim.Native.Nat.{◌≤◌}
-use native.Mathlib.Omega.{arith}
-use lib.ListN.{length, drop, length-set}
+use lib.ListN.{length, drop}
 use Rattle.decimal_display.specs.Printed.{decimal}
-use Rattle.decimal_display.proofs.Printed.{shorter, not_yet, two_left, first_inside, second_inside, two_inside, two_more, last_one, last_two, fill_start, fill_some}
-use borrow.Author.Rules.{rules}
 use Rattle.decimal_display.proofs.fill.Given as goal
 
 abbrev pub invariant-loop-y : goal.invariant-loop-y

@@ -1,5 +1,4 @@
 use Rattle.decimal_display.proofs.Printed.{four_put}
-use borrow.Author.Rules.{rules}
 use Rattle.decimal_display.proofs.put_four.Goals as goal
 
 pub returns : goal.returns

@@ -13,7 +13,7 @@ pub put_two-requires-then-n-lt1000 : goal.put_two-requires-then-n-lt1000
 put_two-requires-then-n-lt1000 c = simp length-set (search rules)
 
 pub shape_of-out-then-n-lt1000 : goal.shape_of-out-then-n-lt1000
-shape_of-out-then-n-lt1000 c = simp length-set at c.put_two-then-n-lt1000.auto.1.0
+shape_of-out-then-n-lt1000 c = simp length-set at c.put_two-then-n-lt1000.auto.out
 
 pub returns-then-n-lt1000 : goal.returns-then-n-lt1000
 returns-then-n-lt1000 c = search (three_digits, rules)

@@ -1,5 +1,4 @@
 use Rattle.output.proofs.Output.{too_short, kept, wrote, whole}
-use borrow.Author.Rules.{rules}
 use Rattle.decimal_display.proofs.put_u64.Goals as goal
 
 pub returns-then-out-decimal_len : goal.returns-then-out-decimal_len

@@ -1,7 +1,3 @@
-use mathlib.Core.Path.{◌≡◌}
-use Prim.Native.Nat.{◌≤◌}
-use lib.ListN.{length, take}
-use Rattle.decimal_display.specs.Printed.{decimal}
 use Rattle.decimal_display.proofs.Printed.{cut_length, cut_digits, digits_written}
 use borrow.Author.Rules.{rules}
 use Rattle.decimal_display.proofs.write_cut.Goals as goal

@@ -1,5 +1,4 @@
 use Rattle.decimal_display.proofs.Printed.{negative_written, positive_written}
-use borrow.Author.Rules.{rules}
 use Rattle.decimal_display.proofs.write_difference.Goals as goal
 
 pub returns-then-a-b : goal.returns-then-a-b

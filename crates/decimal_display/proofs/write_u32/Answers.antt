@@ -1,5 +1,4 @@
 use Rattle.decimal_display.proofs.Printed.{more_than_four}
-use borrow.Author.Rules.{rules}
 use Rattle.decimal_display.proofs.write_u32.Goals as goal
 
 pub returns : goal.returns

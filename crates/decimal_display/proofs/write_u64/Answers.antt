@@ -1,6 +1,5 @@
 use Rattle.output.proofs.Output.{no_room}
 use Rattle.decimal_display.proofs.Printed.{digits_written}
-use borrow.Author.Rules.{rules}
 use Rattle.decimal_display.proofs.write_u64.Goals as goal
 
 pub returns-then-out-at : goal.returns-then-out-at

@@ -1,7 +1,6 @@
 -- `little::from_le_bytes` meets its contract. Assumes nothing.
 use native.Mathlib.Omega.{arith}
 use Rattle.little.proofs.Loops.{added}
-use borrow.Author.Rules.{rules}
 use Rattle.little.proofs.from_le_bytes.Goals as goal
 
 pub returns : goal.returns

@@ -1,10 +1,7 @@
 -- `little::get_words` meets its contract. Assumes nothing.
-use mathlib.Core.Path.{◌≡◌}
-use Prim.Native.Nat.{◌*◌, ◌-◌, ◌≤◌}
 use native.Mathlib.Omega.{arith}
-use lib.ListN.{length, take, length-take, length-drop, length-set}
+use lib.ListN.{length-take, length-drop, length-set}
 use borrow.Author.Rules.{rules}
-use Rattle.little.specs.Little.{words_in}
 use Rattle.little.proofs.Loops.{get_start, get_turn, get_all, get_none}
 use Rattle.little.proofs.get_words.Goals as goal
 
@@ -53,4 +50,5 @@ shape_of-words c = omega arith
 pub returns : goal.returns
 returns c =
     let a = c.args in
-    get_all a.b.now a.words.now c.loop-i.words c.loop-i.i (omega arith) c.loop-i.invariant.3 (omega arith) (omega arith) (omega arith)
+    let all = get_all a.b.now a.words.now c.loop-i.words c.loop-i.i (omega arith) c.loop-i.invariant.3 (omega arith) (omega arith) (omega arith) in
+    record { value = all.0; words_after = all.1 }

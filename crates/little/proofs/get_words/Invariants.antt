@@ -1,11 +1,8 @@
 -- `little::get_words` meets its contract. Assumes nothing.
 use mathlib.Core.Path.{◌≡◌}
 use Prim.Native.Nat.{◌*◌, ◌-◌, ◌≤◌}
-use native.Mathlib.Omega.{arith}
-use lib.ListN.{length, take, length-take, length-drop, length-set}
-use borrow.Author.Rules.{rules}
+use lib.ListN.{length, take}
 use Rattle.little.specs.Little.{words_in}
-use Rattle.little.proofs.Loops.{get_start, get_turn, get_all, get_none}
 use Rattle.little.proofs.get_words.Given as goal
 
 abbrev pub invariant-loop-i : goal.invariant-loop-i

@@ -2,7 +2,6 @@
 use native.Mathlib.Omega.{arith}
 use lib.ListN.{length-set}
 use Rattle.little.proofs.Loops.{stored}
-use borrow.Author.Rules.{rules}
 use Rattle.little.proofs.put_le_bytes.Goals as goal
 
 pub bounds-out-4 : goal.bounds-out-4

@@ -1,11 +1,8 @@
 -- `little::put_words` meets its contract. Assumes nothing.
-use mathlib.Core.Path.{◌≡◌}
-use mathlib.Core.List.{◌++◌}
-use Prim.Native.Nat.{◌+◌, ◌*◌, ◌-◌, ◌≤◌}
+use Prim.Native.Nat.{◌+◌, ◌*◌, ◌≤◌}
 use native.Mathlib.Omega.{arith}
-use lib.ListN.{length, take, drop, length-take, length-drop}
+use lib.ListN.{length, length-take, length-drop}
 use borrow.Author.Rules.{rules}
-use Rattle.little.specs.Little.{bytes_of}
 use Rattle.little.proofs.Loops.{put_start, put_turn, put_length, put_all, put_none}
 use Rattle.little.proofs.put_words.Goals as goal
 
@@ -49,7 +46,7 @@ pub loop-i-preserved : goal.loop-i-preserved
 loop-i-preserved c =
     let a = c.args in
     let room : 8 * length a.words.now ≤ length a.out.now = omega arith in
-    let turn = put_turn a.words.now a.out.now room c.loop-i.out c.loop-i.i c.loop-i.invariant.3 c.put_le_bytes.new.1.0 (omega arith) c.put_le_bytes.ensures in
+    let turn = put_turn a.words.now a.out.now room c.loop-i.out c.loop-i.i c.loop-i.invariant.3 c.put_le_bytes.new.out (omega arith) c.put_le_bytes.ensures in
     (omega arith, room, put_length a.words.now a.out.now room _ (c.loop-i.i + 1) turn (omega arith), turn)
 
 pub overflow_mul-result : goal.overflow_mul-result
