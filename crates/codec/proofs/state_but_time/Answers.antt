@@ -10,17 +10,17 @@ pub returns-then-not-is_peer-is_remembered : goal.returns-then-not-is_peer-is_re
 returns-then-not-is_peer-is_remembered c = search (laws, rules)
 
 pub address_of-peer_ip-requires : goal.address_of-peer_ip-requires
-address_of-peer_ip-requires c = its_peer c.args.t1 _ _ c.is_address.ensures c.is_remembered.ensures c.if-not-is_peer-is_remembered.false
+address_of-peer_ip-requires c = its_peer c.args.w _ _ c.is_address.ensures c.is_remembered.ensures c.if-not-is_peer-is_remembered.false
 
 pub remembered_of-remembered-requires : goal.remembered_of-remembered-requires
 remembered_of-remembered-requires c =
-    its_memory c.args.t1 _ _ c.is_address.ensures c.is_remembered.ensures c.if-not-is_peer-is_remembered.false
+    its_memory c.args.w _ _ c.is_address.ensures c.is_remembered.ensures c.if-not-is_peer-is_remembered.false
 
 pub overflow_cast-result : goal.overflow_cast-result
 overflow_cast-result c =
-    omega (arith, its_asn c.args.t1 _ _ c.is_address.ensures c.is_remembered.ensures c.if-not-is_peer-is_remembered.false)
+    omega (arith, its_asn c.args.w _ _ c.is_address.ensures c.is_remembered.ensures c.if-not-is_peer-is_remembered.false)
 
 pub returns : goal.returns
 returns c =
-    state_told c.args.t1 _ _ c.is_address.ensures c.is_remembered.ensures c.if-not-is_peer-is_remembered.false
+    state_told c.args.w _ _ c.is_address.ensures c.is_remembered.ensures c.if-not-is_peer-is_remembered.false
     _ c.address_of-peer_ip.ensures _ c.float_of-timestamp.ensures _ c.remembered_of-remembered.ensures
