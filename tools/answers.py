@@ -87,7 +87,8 @@ class Proof:
                 parts = rest[1:].split(".")
                 # a step's name may itself have dots? no
                 first = parts[0]
-                if first in ("args", "requires", "ranges"):
+                if norm(first) in ("args", "requires", "ranges", "well_formed", "lifetimes"):
+                    parts[0] = norm(first)
                     new = "c." + ".".join(parts)
                 else:
                     p = self.places.get(place_here) if place_here else None

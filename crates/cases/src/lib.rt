@@ -6,13 +6,18 @@
 //
 // A program reads its list into an array, and for each line puts its own answer into a buffer
 // (`put`, `put_hex`, `put_decimal`) and has it counted (`count`); see `text_vectors`.
-ghost use Rattle.std.specs.Prelude.{◌≡◌, ◌<◌, length};
-ghost use Rattle.io.specs.Counts.{IsPrefixLen};
+#![tactic(auto)]
+
+ghost use Rattle.std.specs.Prelude.{◌≡◌, ◌<◌, length, IfOk};
+ghost use Rattle.std.specs.Io.{ReadsAtMost};
 ghost use Rattle.scan.specs.Lists.{end_while};
 ghost use Rattle.scan.specs.Search.{equal};
 ghost use Rattle.cases.specs.Cases.{part_of, not_tab, answer_of, counted};
 
-use libc::STDOUT_FILENO;
+use std::fs::File;
+use std::io;
+use std::io::Read;
+use std::rt::Files;
 
 // Room for a list of cases.
 pub fn list_buffer() -> [u8; 2097152]
@@ -21,11 +26,34 @@ pub fn list_buffer() -> [u8; 2097152]
     [0; 2097152]
 }
 
-// Reads the list, the file cases.txt, into an array of 2 MiB: how many bytes.
-pub fn load(list: &mut [u8; 2097152]) -> usize
-    ensures { IsPrefixLen result list.new }
+// Reads until the bytes are full or the input ends: how many bytes.
+fn read_full<R: Read>(input: &mut R, out: &mut [u8]) -> io::Result<usize>
+    ensures { ReadsAtMost result out.new }
 {
-    io::read_full(os::open_read(b"cases.txt"), list)
+    let mut n = 0;
+    while n < out.len() {
+        let got = input.read(&mut out[n..])?;
+        if got == 0 {
+            return Ok(n);
+        }
+        n += got;
+    }
+    Ok(n)
+}
+
+// Reads a file into the bytes, as far as there is room: how many bytes.
+pub fn read_file<R: Files>(rt: &R, name: &str, out: &mut [u8]) -> io::Result<usize>
+    ensures { ReadsAtMost result out.new }
+{
+    let mut file = File::open(rt, name)?;
+    read_full(&mut file, out)
+}
+
+// Reads the list, the file cases.txt, into an array of 2 MiB: how many bytes.
+pub fn load<R: Files>(rt: &R, list: &mut [u8; 2097152]) -> io::Result<usize>
+    ensures { ReadsAtMost result list.new }
+{
+    read_file(rt, "cases.txt", list)
 }
 
 // The part a..e, empty where there is none.
@@ -208,8 +236,8 @@ pub fn put_hex(out: &mut [u8], at: usize, s: &[u8]) -> usize {
 // n in decimal.
 pub fn put_decimal(out: &mut [u8], at: usize, n: u64) -> usize {
     let mut digits = [0; 20];
-    let k = io::decimal(n, &mut digits);
-    put(out, at, &digits[..k])
+    let k = decimal_display::write_u64(n, &mut digits, 0);
+    put(out, at, part(&digits, 0, k))
 }
 
 // What all places of a lent list hold, each in decimal behind the mark.
@@ -254,67 +282,74 @@ pub fn start() -> Tally {
     }
 }
 
-// Prints the group's line, where it has cases.
-pub fn report(t: Tally, list: &[u8]) {
-    if t.cases == 0 {
-        return;
-    }
-    io::write_all(STDOUT_FILENO, field(line(list, t.line), 0));
-    io::write_all(STDOUT_FILENO, b": ");
-    io::print_decimal(STDOUT_FILENO, t.cases);
-    io::write_all(STDOUT_FILENO, b" cases, ");
-    io::print_decimal(STDOUT_FILENO, t.mismatches);
-    io::write_all(STDOUT_FILENO, b" mismatches\n");
+// n in decimal, printed.
+pub fn print_decimal(rt: &impl Print, n: u64) -> io::Result<()> {
+    let mut digits = [0; 20];
+    let k = decimal_display::write_u64(n, &mut digits, 0);
+    rt.write_all(part(&digits, 0, k))
 }
 
-fn print_mismatch(line: &[u8], got: &[u8]) {
-    io::write_all(STDOUT_FILENO, b"mismatch: ");
-    io::write_all(STDOUT_FILENO, line);
-    io::write_all(STDOUT_FILENO, b"\n     got: ");
-    io::write_all(STDOUT_FILENO, got);
-    io::write_all(STDOUT_FILENO, b"\n");
+// Prints the group's line, where it has cases.
+pub fn report(rt: &impl Print, t: Tally, list: &[u8]) -> io::Result<()> {
+    if t.cases == 0 {
+        return Ok(());
+    }
+    rt.write_all(field(line(list, t.line), 0))?;
+    rt.write_all(b": ")?;
+    print_decimal(rt, t.cases)?;
+    rt.write_all(b" cases, ")?;
+    print_decimal(rt, t.mismatches)?;
+    rt.write_all(b" mismatches\n")
+}
+
+fn print_mismatch(rt: &impl Print, line: &[u8], got: &[u8]) -> io::Result<()> {
+    rt.write_all(b"mismatch: ")?;
+    rt.write_all(line)?;
+    rt.write_all(b"\n     got: ")?;
+    rt.write_all(got)?;
+    rt.write_all(b"\n")
 }
 
 // The group at hand is printed where the case begins another.
-fn group(t: Tally, list: &[u8], at: usize) -> Tally {
+fn group(rt: &impl Print, t: Tally, list: &[u8], at: usize) -> io::Result<Tally> {
     let old = t.line;
     if scan::same(field(line(list, old), 0), field(line(list, at), 0)) {
-        return t;
+        return Ok(t);
     }
-    report(t, list);
-    Tally {
+    report(rt, t, list)?;
+    Ok(Tally {
         line: at,
         cases: 0,
         mismatches: 0,
-    }
+    })
 }
 
 // A case and the program's answer to it, counted; a mismatch is printed.
-fn judged(t: Tally, case: &[u8], got: &[u8]) -> Tally
-    ensures { result ≡ counted t (equal (answer_of case.now) got.now) }
+fn judged(rt: &impl Print, t: Tally, case: &[u8], got: &[u8]) -> io::Result<Tally>
+    ensures { IfOk result (λ r. r ≡ counted t (equal (answer_of case.now) got.now)) }
 {
-    let cases = std::num::wrapping_add_u64(t.cases, 1);
+    let cases = t.cases.wrapping_add(1);
     if agrees(case, got) {
-        return Tally {
+        return Ok(Tally {
             line: t.line,
             cases,
             mismatches: t.mismatches,
-        };
+        });
     }
-    print_mismatch(case, got);
-    Tally {
+    print_mismatch(rt, case, got)?;
+    Ok(Tally {
         line: t.line,
         cases,
-        mismatches: std::num::wrapping_add_u64(t.mismatches, 1),
-    }
+        mismatches: t.mismatches.wrapping_add(1),
+    })
 }
 
 // The case at `at`, to which the program answers `got`. A comment is passed over.
-pub fn count(t: Tally, list: &[u8], at: usize, got: &[u8]) -> Tally {
+pub fn count(rt: &impl Print, t: Tally, list: &[u8], at: usize, got: &[u8]) -> io::Result<Tally> {
     let case = line(list, at);
     if is_case(case) {
-        judged(group(t, list, at), case, got)
+        judged(rt, group(rt, t, list, at)?, case, got)
     } else {
-        t
+        Ok(t)
     }
 }

@@ -1,4 +1,6 @@
 // The reading state and the element as words of 64 bits, a slot for each field (docs/LAYOUT.md).
+#![tactic(auto)]
+
 ghost use Rattle.std.specs.Prelude.{◌≡◌, true};
 ghost use Rattle.std.proofs.Math.Option.{some};
 ghost use Rattle.std.specs.Float.{binary64};
@@ -14,14 +16,14 @@ use network::{Asn, IpAddr, NetworkPrefix};
 use seconds::TimestampRead;
 use text_dump::{Remembered, State};
 
-#[derive(Drop)]
+#[derive(Clone, Copy)]
 struct AddressWords {
     kind: u64,
     upper: u64,
     lower: u64,
 }
 
-#[derive(Drop)]
+#[derive(Clone, Copy)]
 struct RememberedWords {
     kind: u64,
     addr: AddressWords,
@@ -29,13 +31,13 @@ struct RememberedWords {
 }
 
 // What may be missing: 1 and its value, or 0 and 0.
-#[derive(Drop)]
+#[derive(Clone, Copy)]
 struct OptWords {
     known: u64,
     value: u64,
 }
 
-#[derive(Drop)]
+#[derive(Clone, Copy)]
 pub enum StateRead {
     State(State),
     Nothing,

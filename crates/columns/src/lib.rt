@@ -1,11 +1,13 @@
 // The columns of a table, found by their names in its column header.
+#![tactic(auto)]
+
 ghost use Rattle.std.specs.Prelude.{◌≡◌, ◌-◌};
 ghost use Rattle.columns.specs.Columns.{words_begin, place, are_rising, column_header, shift_left};
 
 use scan::Word;
 
 // Offsets in bytes; those of a column header rise.
-#[derive(Drop)]
+#[derive(Clone, Copy)]
 pub struct Columns {
     pub next_hop: usize,
     pub metric: usize,
@@ -14,13 +16,13 @@ pub struct Columns {
     pub path: usize,
 }
 
-#[derive(Drop)]
+#[derive(Clone, Copy)]
 pub enum ColumnsRead {
     Found(Columns),
     Nothing,
 }
 
-#[derive(Drop)]
+#[derive(Clone, Copy)]
 enum Place {
     At(usize),
     Nothing,

@@ -1,8 +1,10 @@
 // Listings cut into parts, and numbers drawn by a fixed rule, for test programs that replay lists of calls.
-use libc::STDOUT_FILENO;
+#![tactic(auto)]
+
+use std::io;
 
 // The i-th part lies between the places i and i + 1; the header ends at `header`, in the first part.
-#[derive(Drop)]
+#[derive(Clone, Copy)]
 pub struct Cut {
     pub places: [usize; 10],
     pub parts: usize,
@@ -21,11 +23,7 @@ pub fn body_at(cut: Cut, i: usize) -> usize {
 
 // The i-th part.
 pub fn part(text: &[u8], cut: Cut, i: usize) -> &[u8] {
-    cases::part(
-        text,
-        place(cut, i),
-        place(cut, std::num::wrapping_add_usize(i, 1)),
-    )
+    cases::part(text, place(cut, i), place(cut, i.wrapping_add(1)))
 }
 
 fn least(a: usize, b: usize) -> usize {
@@ -50,7 +48,7 @@ pub fn drawn(x: u64) -> u64 {
 // A place up to a quarter of the text further on, or the line end behind it.
 fn further(text: &[u8], at: usize, x: u64, line_end: bool) -> usize {
     let steps = x % (text.len() as u64 / 4 + 1);
-    let to = std::num::wrapping_add_usize(at, steps as usize);
+    let to = at.wrapping_add(steps as usize);
     if text.len() < to {
         return text.len();
     }
@@ -82,12 +80,12 @@ pub fn by_chance(text: &[u8], header: usize, seed: u64, line_ends: bool) -> Cut 
     }
 }
 
-pub fn print(cut: Cut) {
+pub fn print(rt: &impl Print, cut: Cut) -> io::Result<()> {
     let mut i = 1;
     while i < cut.parts {
-        io::write_all(STDOUT_FILENO, b" ");
-        io::print_decimal(STDOUT_FILENO, place(cut, i) as u64);
+        rt.write_all(b" ")?;
+        cases::print_decimal(rt, place(cut, i) as u64)?;
         i += 1;
     }
-    io::write_all(STDOUT_FILENO, b"\n");
+    rt.write_all(b"\n")
 }

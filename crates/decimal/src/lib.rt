@@ -5,13 +5,13 @@ ghost use Rattle.std.specs.Prelude.{◌≡◌, map, ℕ, ◌≤◌, ◌<◌, len
 ghost use Rattle.word.specs.Word.{number, little_endian};
 ghost use Rattle.decimal.specs.Decimal.{read_digits, read_u32, read_u64, behind, leading, or_zero, digits_at, first_digits, mark, placed};
 
-#[derive(Drop)]
+#[derive(Clone, Copy)]
 pub enum U32Read {
     Number(u32),
     Nothing,
 }
 
-#[derive(Drop)]
+#[derive(Clone, Copy)]
 pub enum U64Read {
     Number(u64),
     Nothing,
@@ -110,7 +110,7 @@ pub fn read_u32(s: &[u8]) -> U32Read
 }
 
 // What some digits make, and the place behind them.
-#[derive(Drop)]
+#[derive(Clone, Copy)]
 pub enum DigitsRead {
     Digits(u32, usize),
     Many,
@@ -175,7 +175,7 @@ fn digits_value(w: u64, n: usize) -> u32
 }
 
 // How many digits are at the front of a word's bytes, and what they make.
-#[derive(Drop)]
+#[derive(Clone, Copy)]
 pub struct FirstDigits {
     pub count: usize,
     pub value: u32,

@@ -1,31 +1,33 @@
 // The element that a route yields (01, Records), and whether one is spoilt.
+#![tactic(auto)]
+
 ghost use Rattle.std.specs.Prelude.{◌≡◌};
 ghost use Rattle.elem.specs.Element.{spoilt};
 
 use decimal::U32Read;
 use network::{Asn, IpAddr, NetworkPrefix};
 
-#[derive(Drop)]
+#[derive(Clone, Copy)]
 pub enum Origin {
     IGP,
     EGP,
     INCOMPLETE,
 }
 
-#[derive(Drop)]
+#[derive(Clone, Copy)]
 pub enum OptOrigin {
     Known(Origin),
     Nothing,
 }
 
-#[derive(Drop)]
+#[derive(Clone, Copy)]
 pub enum OptAsn {
     Known(Asn),
     Nothing,
 }
 
 // Its AS numbers are the first `count` of a list that is lent along with it.
-#[derive(Drop)]
+#[derive(Clone, Copy)]
 pub struct Element {
     pub announce: bool,
     pub timestamp: f64,

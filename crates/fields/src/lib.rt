@@ -1,5 +1,7 @@
 // What stands in a column, with spaces around it: mostly an IPv4 address, a prefix, a number, or nothing. These are read where they stand, with no trimming
 // first; anything else is trimmed and read as any text is.
+#![tactic(auto)]
+
 ghost use Rattle.std.specs.Prelude.{◌≡◌, ◌+◌, ◌%◌, ◌≤◌, length, take, drop, ◌==◌};
 ghost use Rattle.utf8.specs.Utf8.{all};
 ghost use Rattle.text.specs.White.{trim as trimOf};
@@ -12,21 +14,21 @@ use decimal::{DigitsRead, U32Read};
 use network::{AddressRead, IpAddr, NetworkPrefix, PrefixRead};
 
 // An octet, and the place behind its digits.
-#[derive(Drop)]
+#[derive(Clone, Copy)]
 enum OctetRead {
     Octet(u32, usize),
     Nothing,
 }
 
 // An address at the front of a text, and the place behind it.
-#[derive(Drop)]
+#[derive(Clone, Copy)]
 enum FrontRead {
     Address(u32, usize),
     Nothing,
 }
 
 // The length behind an address, and the place behind its digits.
-#[derive(Drop)]
+#[derive(Clone, Copy)]
 enum BitsRead {
     Bits(u8, usize),
     Nothing,

@@ -1,9 +1,11 @@
 // Input that is read in pieces: the line that comes next among the bytes at hand, and the bytes that stay for when more have come.
+#![tactic(auto)]
+
 ghost use Rattle.std.specs.Prelude.{◌≡◌};
 ghost use Rattle.input.specs.Input.{Fronts, kept_length, kept};
 
 // A line that comes next, with its end.
-#[derive(Drop)]
+#[derive(Clone, Copy)]
 pub enum Front {
     Line(usize),
     TooLong,

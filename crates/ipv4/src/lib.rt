@@ -1,18 +1,20 @@
 // IPv4 addresses, read from text as 01 says.
+#![tactic(auto)]
+
 ghost use Rattle.std.specs.Prelude.{◌≡◌, ◌+◌, ◌≤◌, length, drop};
 ghost use Rattle.std.proofs.Math.Option.{some};
 ghost use Rattle.decimal.specs.Decimal.{behind};
 ghost use Rattle.ipv4.specs.Parts.{before};
 ghost use Rattle.ipv4.specs.Ipv4.{octet_at, read_ipv4};
 
-#[derive(Drop)]
+#[derive(Clone, Copy)]
 pub enum Ipv4Read {
     Address(u32),
     Nothing,
 }
 
 // An octet, and the place behind its digits.
-#[derive(Drop)]
+#[derive(Clone, Copy)]
 enum OctetRead {
     Octet(u32, usize),
     Nothing,

@@ -1,4 +1,6 @@
 // IPv6 addresses, read from text as RFC 4291 and 01 say.
+#![tactic(auto)]
+
 ghost use Rattle.std.specs.Prelude.{◌≡◌, ◌+◌, ◌-◌, ◌≤◌, true, false, length, replicate};
 ghost use Rattle.std.proofs.Math.Option.{get_or};
 ghost use Rattle.ipv4.specs.Parts.{before};
@@ -8,7 +10,7 @@ ghost use Rattle.ipv6.specs.Groups.{as_group, push as pushed, push_all, side_fro
 
 use ipv4::Ipv4Read;
 
-#[derive(Drop)]
+#[derive(Clone, Copy)]
 pub enum Ipv6Read {
     Address(u64, u64),
     Nothing,
@@ -39,7 +41,7 @@ fn hex_digit(b: u8) -> u8
     16
 }
 
-#[derive(Drop)]
+#[derive(Clone, Copy)]
 enum GroupRead {
     Group(u16),
     Nothing,
@@ -68,7 +70,7 @@ fn group(p: &[u8]) -> GroupRead
 }
 
 // How many groups are read, and the two halves that they make.
-#[derive(Drop)]
+#[derive(Clone, Copy)]
 struct Groups {
     n: usize,
     upper: u64,
@@ -97,7 +99,7 @@ fn push(r: Groups, g: u16) -> Groups
     }
 }
 
-#[derive(Drop)]
+#[derive(Clone, Copy)]
 enum SideRead {
     Side(Groups),
     Nothing,

@@ -1,4 +1,6 @@
 // Addresses and prefixes: their types, and reading them from text as 01 says.
+#![tactic(auto)]
+
 ghost use Rattle.std.specs.Prelude.{◌≡◌, ◌≤◌};
 ghost use Rattle.network.specs.Address.{read_address};
 ghost use Rattle.network.specs.Prefix.{last_place, length_of, length_for, as_length, read_prefix, valid_prefix};
@@ -7,17 +9,17 @@ use decimal::U64Read;
 use ipv4::Ipv4Read;
 use ipv6::Ipv6Read;
 
-#[derive(Drop)]
+#[derive(Clone, Copy)]
 pub struct Asn(pub u32);
 
 // The address as numbers, upper half first.
-#[derive(Drop)]
+#[derive(Clone, Copy)]
 pub enum IpAddr {
     V4(u32),
     V6(u64, u64),
 }
 
-#[derive(Drop)]
+#[derive(Clone, Copy)]
 pub struct NetworkPrefix {
     pub addr: IpAddr,
     pub len: u8,
@@ -35,7 +37,7 @@ pub fn is_valid_prefix(p: NetworkPrefix) -> bool
     }
 }
 
-#[derive(Drop)]
+#[derive(Clone, Copy)]
 pub enum AddressRead {
     Address(IpAddr),
     Nothing,
@@ -56,7 +58,7 @@ pub fn read_address(s: &[u8]) -> AddressRead
     }
 }
 
-#[derive(Drop)]
+#[derive(Clone, Copy)]
 enum LengthRead {
     Length(u8),
     Nothing,
@@ -103,7 +105,7 @@ fn last_slash(s: &[u8]) -> usize
     s.len()
 }
 
-#[derive(Drop)]
+#[derive(Clone, Copy)]
 pub enum PrefixRead {
     Prefix(NetworkPrefix),
     Nothing,

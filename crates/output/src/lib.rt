@@ -7,7 +7,7 @@ ghost use Rattle.word.specs.Word.{number, bytes, little_endian};
 ghost use Rattle.output.specs.Output.{Written};
 
 // What a call answers that prints into a lent list or refuses to.
-#[derive(Drop)]
+#[derive(Clone, Copy)]
 pub enum Put {
     Wrote(usize),
     TooShort,

@@ -1,4 +1,6 @@
 // The remembered prefix as numbers, for a loop that keeps it: an enum that holds a struct would be copied through memory at each turn.
+#![tactic(auto)]
+
 ghost use Rattle.std.specs.Prelude.{◌≡◌};
 ghost use Rattle.plain_reader.specs.Rules.{replace};
 ghost use Rattle.text_dump.specs.State.{plain};
@@ -11,7 +13,7 @@ use text_dump::Remembered;
 use text_dump_line::PrefixText;
 
 // 0 nothing, 1 invalid text, 2 a prefix; then the version of its address, 4 or 6, the address in two halves, and its length.
-#[derive(Drop)]
+#[derive(Clone, Copy)]
 pub struct Packed {
     pub kind: u64,
     pub version: u64,

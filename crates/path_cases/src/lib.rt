@@ -1,4 +1,6 @@
 // Path records out of a line of cases, for the test programs of the path crates.
+#![tactic(auto)]
+
 pub fn refused(out: &mut [u8], at: usize, number: u64) -> usize {
     let k = cases::put(out, at, b"refused ");
     cases::put_decimal(out, k, number)

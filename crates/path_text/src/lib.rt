@@ -1,4 +1,6 @@
 // What the path's part of a line says: the AS numbers, and the origin.
+#![tactic(auto)]
+
 ghost use Rattle.std.specs.Prelude.{◌≡◌, true, cond, [], ◌∷◌, ◌++◌, ◌≤◌, length, drop, leb};
 ghost use Rattle.output.specs.Output.{front};
 ghost use Rattle.path_text.specs.Path.{last_token, letter, is_known, origin_of, asns_of, put_answer};
@@ -84,7 +86,7 @@ pub fn origin_of(s: &[u8]) -> OptOrigin
 }
 
 // A number with the place behind it, or another token.
-#[derive(Drop)]
+#[derive(Clone, Copy)]
 enum Plain {
     Number(u32, usize),
     Other,
@@ -124,7 +126,7 @@ fn is_lone(part: &[u8], at: usize) -> bool
 }
 
 // What comes next: a number or another token, with the place behind it, or the path's end.
-#[derive(Drop)]
+#[derive(Clone, Copy)]
 enum NextAsn {
     Number(u32, usize),
     Other(usize),
@@ -199,7 +201,7 @@ fn write_asns(part: &[u8], out: &mut [u32]) -> usize
     }
 }
 
-#[derive(Drop)]
+#[derive(Clone, Copy)]
 pub enum AsnsPut {
     Wrote(usize),
     TooFew,

@@ -26,7 +26,7 @@ use text_dump_line::{Line, PrefixText, RouteEntry};
 use timestamp::Inferred;
 
 // What is to come.
-#[derive(Drop)]
+#[derive(Clone, Copy)]
 pub enum Phase {
     // The path line.
     Path,
@@ -40,7 +40,7 @@ pub enum Phase {
 }
 
 // What a line comes to: how many bytes are consumed, how many are written, and the new phase; or the last bytes that are written.
-#[derive(Drop)]
+#[derive(Clone, Copy)]
 enum Step {
     Took(usize, usize, Phase),
     Stops(usize),
@@ -187,7 +187,7 @@ fn take_line(phase: Phase, input: &[u8], ended: bool, out: &mut [u8]) -> Step
 
 // How far a run came: the new phase, how many bytes of the input are consumed and how many of the output written, and whether it wants more
 // input.
-#[derive(Drop)]
+#[derive(Clone, Copy)]
 pub struct Ran {
     pub phase: Phase,
     pub consumed: usize,
@@ -249,7 +249,7 @@ fn take_head(phase: Phase, input: &[u8], ended: bool, out: &mut [u8]) -> Ran
 
 // Where the loop over the body's lines stands: what the state remembers, packed, and where it is, how many lines of the listing have come, and how
 // many bytes of what the lines under the remembered prefix begin with are printed: all of them, or none.
-#[derive(Drop)]
+#[derive(Clone, Copy)]
 struct Place {
     position: usize,
     number: u64,
@@ -258,7 +258,7 @@ struct Place {
 }
 
 // A Step of the body. The numbers come first, so that each stands at the same place in every variant.
-#[derive(Drop)]
+#[derive(Clone, Copy)]
 enum BodyStep {
     Took(usize, usize, Place),
     Stops(usize),
@@ -266,7 +266,7 @@ enum BodyStep {
 }
 
 // A route's line: how many bytes it has, or the number of its refusal.
-#[derive(Drop)]
+#[derive(Clone, Copy)]
 enum RoutePut {
     Wrote(usize),
     Refused(u64),
@@ -311,7 +311,7 @@ fn print_numbers(
 }
 
 // Where a plain path's last number begins, and where its text ends.
-#[derive(Drop)]
+#[derive(Clone, Copy)]
 enum PlainPath {
     Text(usize, usize),
     Other,

@@ -8,13 +8,13 @@ ghost use Rattle.scan.specs.Words.{is_gap, not_gap, next_word};
 ghost use Rattle.scan.specs.Search.{equal, starts_with, find_in};
 
 // A word's start and end.
-#[derive(Drop)]
+#[derive(Clone, Copy)]
 pub enum Word {
     At(usize, usize),
     Nothing,
 }
 
-#[derive(Drop)]
+#[derive(Clone, Copy)]
 pub enum Found {
     At(usize),
     Nothing,

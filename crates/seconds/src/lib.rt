@@ -8,19 +8,19 @@ ghost use Rattle.seconds.specs.Seconds.{whole_number, as_magnitude, second_of, a
 
 use output::Put;
 
-#[derive(Drop)]
+#[derive(Clone, Copy)]
 enum Magnitude {
     Number(u64),
     Nothing,
 }
 
-#[derive(Drop)]
+#[derive(Clone, Copy)]
 pub enum SecondRead {
     Second(u64),
     Nothing,
 }
 
-#[derive(Drop)]
+#[derive(Clone, Copy)]
 pub enum TimestampRead {
     Timestamp(f64),
     Nothing,

@@ -1,4 +1,6 @@
 // White space of a text, told by its characters: trimming, tokens.
+#![tactic(auto)]
+
 ghost use Rattle.std.specs.Prelude.{◌≡◌, reverse, ◌-◌, ◌+◌, ◌*◌, ◌%◌, ◌≤◌, get_or, drop, length};
 ghost use Rattle.utf8.specs.Utf8.{piece_len, chars};
 ghost use Rattle.text.specs.White.{is_white, trim_start, trim_end, trim as trimOf, next_token, white_len, after_token};
@@ -154,7 +156,7 @@ pub fn trim(s: &[u8]) -> &[u8]
 }
 
 // A token's start and end.
-#[derive(Drop)]
+#[derive(Clone, Copy)]
 pub enum Token {
     At(usize, usize),
     Nothing,

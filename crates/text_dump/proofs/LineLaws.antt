@@ -140,7 +140,7 @@ module _ (σ : State) (l : List ℕ) (k : ℕ) (one : lines l ≡ l ∷ []) (fin
 
     module _ (x : PrefixText) (e : RouteEntry) (h : y ≡ Route e x) where
       -- a route without a valid prefix
-      pub other_route : (n : Remembered) → plain n ≡ replace (text_of x) (plain σ.remembered) → OneOf (0 ∷ 1 ∷ []) (tag_of the_type n)
+      pub other_route : (n : Remembered) → plain n ≡ replace (text_of x) (plain σ.remembered) → ((p : NetworkPrefix) → n ≡ Valid p → ⊥)
           → next (turned σ) l k ≡ (end, moved σ (record { at = length l; remembered = plain n }))
       other_route n g o = over n (loop.passes_route (turned σ) l 0 σ.remembered begun some (length l) ends y said_here x e h n g o)
 

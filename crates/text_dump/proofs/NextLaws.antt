@@ -89,14 +89,14 @@ module _ (σ : State) (t : List ℕ) where
           is_route : (rules σ).classify (between i e) ≡ said (between i e) (Route r x)
           is_route = says ∙ ap (said (between i e)) h
 
-          pub passes_route : OneOf (0 ∷ 1 ∷ []) (tag_of the_type n) → Came e n
+          pub passes_route : ((p : NetworkPrefix) → n ≡ Valid p → ⊥) → Came e n
           passes_route o k = came k ∙ go n o g
             where
-              go : (n : Remembered) → OneOf (0 ∷ 1 ∷ []) (tag_of the_type n) → plain n ≡ replace (text_of x) (plain m)
+              go : (n : Remembered) → ((p : NetworkPrefix) → n ≡ Valid p → ⊥) → plain n ≡ replace (text_of x) (plain m)
                   → come (rules σ) t (cursor σ) k i (plain m) ≡ come (rules σ) t (cursor σ) k e (plain n)
               go Nothing o g = loop.under_nothing (rules σ) t (cursor σ) k i e (plain m) inside here (text_of x) (r, asns_of (path_of r (between i e))) is_route (sym g)
               go Invalid o g = loop.under_invalid (rules σ) t (cursor σ) k i e (plain m) inside here (text_of x) (r, asns_of (path_of r (between i e))) is_route (sym g)
-              go (Valid p) o g = absurd (⊎_elim (λ e. let z : ◌≡◌ {A = ℕ} 2 0 = e in omega arith) (λ e. let z : ◌≡◌ {A = ℕ} 2 1 = e in omega arith) o)
+              go (Valid p) o g = absurd (o p refl)
 
           pub reaches_route : (p : NetworkPrefix) → n ≡ Valid p → σ.position ≤ length t → ComesTo (λ k. at_route σ k p (r, asns_of (path_of r (between i e))) e)
           reaches_route p f b k = came k ∙ go k (leb (length asns) k) refl

@@ -1,4 +1,6 @@
 // The reader of a table in parts: opening, next and turn, by a state that each call takes and hands back.
+#![tactic(auto)]
+
 ghost use Rattle.std.specs.Prelude.{◌≡◌, length, take};
 ghost use Rattle.plain_reader.specs.Rules.{replace};
 ghost use Rattle.text_dump.specs.State.{plain, valid_remembered, spoilt, turned, moved};
@@ -16,14 +18,14 @@ use path_text::AsnsPut;
 use text_dump_header::HeaderRead;
 use text_dump_line::{Line, PrefixText, RouteEntry};
 
-#[derive(Drop)]
+#[derive(Clone, Copy)]
 pub enum Remembered {
     Nothing,
     Invalid,
     Valid(NetworkPrefix),
 }
 
-#[derive(Drop)]
+#[derive(Clone, Copy)]
 pub struct State {
     pub columns: Columns,
     pub peer_ip: IpAddr,
@@ -34,7 +36,7 @@ pub struct State {
 }
 
 // The state, or a refusal; that of an unreadable line has the line's number.
-#[derive(Drop)]
+#[derive(Clone, Copy)]
 pub enum Opened {
     Table(State),
     NoTimestamp,
@@ -43,7 +45,7 @@ pub enum Opened {
 }
 
 // The state behind the element's line or at the part's end; in a refusal the one that was handed in.
-#[derive(Drop)]
+#[derive(Clone, Copy)]
 pub enum Next {
     Element(State, Element),
     End(State),

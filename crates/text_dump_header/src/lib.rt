@@ -1,4 +1,6 @@
 // Is it a table, and what its preamble and column header say.
+#![tactic(auto)]
+
 ghost use Rattle.std.specs.Prelude.{◌≡◌, take};
 ghost use Rattle.text_dump_header.specs.Detect.{contains as containsOf, is_graphic, detect};
 ghost use Rattle.text_dump_header.specs.Preamble.{up_to, reads, version_text, router_in, router_text, local_as_text, preamble_line};
@@ -110,7 +112,7 @@ fn local_as(t: &[u8], old: U32Read) -> U32Read
     decimal::read_u32(text::trim(up_to(&marked[9..], b"local AS ")))
 }
 
-#[derive(Drop)]
+#[derive(Clone, Copy)]
 pub struct Preamble {
     pub table_version: U64Read,
     pub router_id: AddressRead,
@@ -133,7 +135,7 @@ fn read_preamble(t: &[u8], p: Preamble) -> Preamble
     }
 }
 
-#[derive(Drop)]
+#[derive(Clone, Copy)]
 pub struct TextDumpHeader {
     pub table_version: U64Read,
     pub router_id: AddressRead,
@@ -142,7 +144,7 @@ pub struct TextDumpHeader {
 }
 
 // The header and the position behind its last line, or the number of an unreadable line.
-#[derive(Drop)]
+#[derive(Clone, Copy)]
 pub enum HeaderRead {
     Header(TextDumpHeader, usize),
     Unreadable(usize),

@@ -1,4 +1,6 @@
 // What one body line says.
+#![tactic(auto)]
+
 ghost use Rattle.std.specs.Prelude.{◌≡◌, true, length};
 ghost use Rattle.utf8.specs.Utf8.{is_one, all, readable};
 ghost use Rattle.utf8.specs.Edge.{has_slice};
@@ -13,7 +15,7 @@ use decimal::U32Read;
 use elem::OptOrigin;
 use network::{AddressRead, IpAddr, NetworkPrefix, PrefixRead};
 
-#[derive(Drop)]
+#[derive(Clone, Copy)]
 pub enum PrefixText {
     Blank,
     Invalid,
@@ -21,7 +23,7 @@ pub enum PrefixText {
 }
 
 // What a route carries besides its prefix. The path's part of the line lies between two places. The origin stands last, so that the numbers are copied in whole words.
-#[derive(Drop)]
+#[derive(Clone, Copy)]
 pub struct RouteEntry {
     pub next_hop: IpAddr,
     pub metric: U32Read,
@@ -31,13 +33,13 @@ pub struct RouteEntry {
     pub origin: OptOrigin,
 }
 
-#[derive(Drop)]
+#[derive(Clone, Copy)]
 pub enum RouteRead {
     Route(PrefixText, RouteEntry),
     Nothing,
 }
 
-#[derive(Drop)]
+#[derive(Clone, Copy)]
 pub enum Line {
     Unreadable,
     Passed,

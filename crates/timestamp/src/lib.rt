@@ -1,4 +1,6 @@
 // The date in a file's path (`infer_timestamp_from_path`), and the moment that it names.
+#![tactic(auto)]
+
 ghost use Rattle.std.specs.Prelude.{◌≡◌, ◌+◌, ◌-◌, ◌≤◌, ◌<◌, length, get_or};
 ghost use Rattle.decimal.specs.Decimal.{is_digit};
 ghost use Rattle.seconds.specs.Seconds.{as_second};
@@ -7,13 +9,13 @@ ghost use Rattle.timestamp.specs.Dates.{fits as fitsByte, has_shape, digit_befor
 use calendar::{Date, Days};
 use seconds::SecondRead;
 
-#[derive(Drop)]
+#[derive(Clone, Copy)]
 enum Place {
     At(usize),
     Nothing,
 }
 
-#[derive(Drop)]
+#[derive(Clone, Copy)]
 pub enum Inferred {
     Timestamp(f64),
     Nothing,

@@ -1,0 +1,10 @@
+use Rattle.std.proofs.Common.{◌-◌, ◌*◌, ◌^◌, ◌<◌, ◌≤◌, rules}
+use Rattle.ipv4.proofs.Ipv4.{room, room_for, octets_grow}
+use Rattle.fields.proofs.FrontLaws.{OctetsTo, octets_start, octet_below, dot_inside, dot_fits, dot_near, octets_more, address_there, address_none}
+use Rattle.fields.proofs.address_front.Given as goal
+
+abbrev pub invariant-loop-k : goal.invariant-loop-k
+invariant-loop-k l = (l.k ≤ 3) × (l.at ≤ l.k * 4) × (l.a < 256 ^ l.k) × OctetsTo l.s l.at l.k l.a
+
+abbrev pub decreases-loop-k : goal.decreases-loop-k
+decreases-loop-k l = 3 - l.k

@@ -1,0 +1,28 @@
+use Rattle.std.proofs.Common.{◌≡◌, ◌-◌, ◌≤◌, take, drop, rules}
+use Rattle.utf8.specs.Utf8.{all}
+use Rattle.fields.specs.Fronts.{is_blank}
+use Rattle.fields.proofs.SpaceLaws.{near_none, near_more, near_all}
+use Rattle.fields.proofs.spaces_near.Goals as goal
+
+ruleset laws = (near_none, near_more, near_all)
+
+pub loop-k-init : goal.loop-k-init
+loop-k-init c = search (laws, rules)
+
+pub overflow_add-near : goal.overflow_add-near
+overflow_add-near c = search (laws, rules)
+
+pub bounds-s-at : goal.bounds-s-at
+bounds-s-at c = search (laws, rules)
+
+pub overflow_add-k : goal.overflow_add-k
+overflow_add-k c = search (laws, rules)
+
+pub loop-k-smaller : goal.loop-k-smaller
+loop-k-smaller c = search (laws, rules)
+
+pub loop-k-preserved : goal.loop-k-preserved
+loop-k-preserved c = search (laws, rules)
+
+pub returns : goal.returns
+returns c = search (laws, rules)

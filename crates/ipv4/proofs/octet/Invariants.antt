@@ -1,0 +1,19 @@
+use mathlib.Core.Path.{◌≡◌}
+use Prim.Native.Nat.{◌+◌, ◌-◌, ◌≤◌}
+use lib.ListN.{length, drop}
+use borrow.Author.Rules.{rules}
+use Rattle.decimal.specs.Decimal.{behind}
+use Rattle.ipv4.specs.Parts.{before}
+use Rattle.ipv4.proofs.Ipv4.{dot_length, dot_value, last_length, last_value, more_length, digit_low, digit_high, more_value, over}
+use Rattle.ipv4.proofs.octet.Given as goal
+
+abbrev pub invariant-loop-i : goal.invariant-loop-i
+invariant-loop-i l =
+    (l.at ≤ l.i)
+    × (l.i ≤ length l.s)
+    × (l.v ≤ 255)
+    × (l.at + length (before 46 (drop l.at l.s)) ≡ l.i + length (before 46 (drop l.i l.s)))
+    × (behind 0 (before 46 (drop l.at l.s)) ≡ behind l.v (before 46 (drop l.i l.s)))
+
+abbrev pub decreases-loop-i : goal.decreases-loop-i
+decreases-loop-i l = length l.s - l.i

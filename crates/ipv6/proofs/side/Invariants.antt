@@ -1,0 +1,17 @@
+use mathlib.Core.Path.{◌≡◌}
+use Prim.Native.Nat.{◌≤◌}
+use lib.ListN.{length}
+use borrow.Author.Rules.{rules}
+use Rattle.ipv4.specs.Parts.{parts, before}
+use Rattle.ipv6.specs.Ipv6.{groups, side}
+use Rattle.ipv6.specs.Groups.{side_from}
+use Rattle.ipv4.proofs.Parts.{take_count}
+use Rattle.ipv6.proofs.Sides.{push_le, side_empty, side_start, side_last, side_stop, side_full, side_next}
+use Rattle.ipv6.proofs.side.Given as goal
+
+abbrev pub invariant-loop-e : goal.invariant-loop-e
+invariant-loop-e l =
+    (length l.t ≤ length l.s) × (l.r.n ≤ 8) × (l.e ≡ length (before 58 l.t)) × (side_from l.initial.r (side l.dotted l.s) ≡ side_from l.r (groups l.dotted (parts 58 l.t)))
+
+abbrev pub decreases-loop-e : goal.decreases-loop-e
+decreases-loop-e l = length l.t

@@ -1,0 +1,23 @@
+use borrow.Author.Rules.{rules}
+use Rattle.network.proofs.Reading.{length_v4, length_v6}
+use Rattle.network.proofs.length_for.Goals as goal
+
+ruleset laws = (length_v4, length_v6)
+
+pub enum_told-1 : goal.enum_told-1
+enum_told-1 c = search (laws, rules)
+
+pub read_length-requires : goal.read_length-requires
+read_length-requires c = search (laws, rules)
+
+pub enum_told-in-V6 : goal.enum_told-in-V6
+enum_told-in-V6 c = search (laws, rules)
+
+pub read_length-requires-in-V6 : goal.read_length-requires-in-V6
+read_length-requires-in-V6 c = search (laws, rules)
+
+pub returns-in-V4 : goal.returns-in-V4
+returns-in-V4 c = search (laws, rules)
+
+pub returns-in-V6 : goal.returns-in-V6
+returns-in-V6 c = search (laws, rules)

@@ -1,0 +1,6 @@
+use Rattle.text.proofs.TrimLaws.{trim_is}
+use borrow.Author.Rules.{rules}
+use Rattle.text.proofs.trim.Goals as goal
+
+pub returns : goal.returns
+returns c = cc (trim_is _)

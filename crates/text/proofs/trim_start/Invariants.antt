@@ -1,0 +1,13 @@
+use mathlib.Core.Path.{◌≡◌}
+use Prim.Native.Nat.{◌-◌, ◌≤◌}
+use lib.ListN.{length, drop}
+use Rattle.text.specs.White.{trim_start}
+use Rattle.text.proofs.PlaceLaws.{white_inside, white_fits, space_passed, visible_kept, nothing_kept, white_kept, white_passed}
+use borrow.Author.Rules.{rules}
+use Rattle.text.proofs.trim_start.Given as goal
+
+abbrev pub invariant-loop-i : goal.invariant-loop-i
+invariant-loop-i l = (l.i ≤ length l.s) × (trim_start l.s ≡ trim_start (drop l.i l.s))
+
+abbrev pub decreases-loop-i : goal.decreases-loop-i
+decreases-loop-i l = length l.s - l.i

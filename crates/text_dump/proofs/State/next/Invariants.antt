@@ -1,0 +1,12 @@
+use mathlib.Core.Path.{◌≡◌, refl, ap}
+use Prim.Native.Nat.{◌-◌, ◌≤◌}
+use lib.ListN.{length}
+use borrow.Author.Rules.{rules}
+use Rattle.text_dump.proofs.NextLaws.{Came, comes, line_order, line_inside, line_less, passes, wraps, passes_route, refuses_5, in_part, refuses_6, says_end, at_route_lem}
+use Rattle.text_dump.proofs.State.next.Given as goal
+
+abbrev pub invariant-loop-at : goal.invariant-loop-at
+invariant-loop-at l = (l.asns ≡ l.initial.asns) × (l.self.position ≤ length l.part) × (l.at ≤ length l.part) × Came l.self l.part l.at l.remembered
+
+abbrev pub decreases-loop-at : goal.decreases-loop-at
+decreases-loop-at l = length l.part - l.at
