@@ -1,4 +1,6 @@
 // The calls that other languages make: numbers and byte slices alone. State and element cross as bytes of fixed lengths (docs/LAYOUT.md).
+#![tactic(auto)]
+
 ghost use Rattle.std.specs.Prelude.{◌≡◌, cond, ◌++◌, ◌≤◌, length, take, drop};
 ghost use Rattle.output.specs.Output.{front};
 ghost use Rattle.text_dump_header.specs.Header.{header};
@@ -104,12 +106,7 @@ pub fn fernweeks_open(text: &[u8], timestamp: f64, state: &mut [u8]) -> u32
     }
 }
 
-pub fn fernweeks_next(
-    state: &mut [u8],
-    part: &[u8],
-    asns: &mut [u32],
-    element: &mut [u8],
-) -> u32
+pub fn fernweeks_next(state: &mut [u8], part: &[u8], asns: &mut [u32], element: &mut [u8]) -> u32
     ensures { left result state.new asns.new element.new ≡ next_left state.old part.now asns.old element.old }
 {
     if state.len() < STATE_LEN {
