@@ -46,7 +46,7 @@ pub shape_of-out-in-Starved : goal.shape_of-out-in-Starved
 shape_of-out-in-Starved c = search (laws, rules)
 
 pub returns-in-Starved : goal.returns-in-Starved
-returns-in-Starved c = starves c.args.state c.args.number _ _ _ c.loop-out.b _ _ _ c.loop-out.invariant.0 _ c.take_body_line-step.result c.take_body_line-step.ensures.0 (search rules) _ c.body_ran.ensures
+returns-in-Starved c = starves c.args.state c.args.number _ _ _ c.loop-out.b _ _ _ c.loop-out.invariant.0 _ c.take_body_line-step.result c.take_body_line-step.ensures.steps (search rules) _ c.body_ran.ensures
 
 pub enum_known-step : goal.enum_known-step
 enum_known-step c = search (laws, rules)
@@ -54,7 +54,7 @@ enum_known-step c = search (laws, rules)
 pub overflow_add-all : goal.overflow_add-all
 overflow_add-all c =
     let h : c.loop-out.written + c.step-1.given.0.0 ≤ length c.args.out.now =
-    stops_within c.args.state c.args.number _ _ _ c.loop-out.b _ _ _ c.loop-out.invariant.0 _ _ c.take_body_line-step.ensures.0 _ c.step-1.given.1 in omega (arith, h, c.well_formed.1.1.1.1.1.1.1.0)
+    stops_within c.args.state c.args.number _ _ _ c.loop-out.b _ _ _ c.loop-out.invariant.0 _ _ c.take_body_line-step.ensures.steps _ c.step-1.given.1 in omega (arith, h, c.well_formed.1.1.1.1.1.1.1.0)
 
 pub shape_of-start-in-Stops : goal.shape_of-start-in-Stops
 shape_of-start-in-Stops c = search (laws, rules)
@@ -63,7 +63,7 @@ pub shape_of-out-in-Stops : goal.shape_of-out-in-Stops
 shape_of-out-in-Stops c = search (laws, rules)
 
 pub returns-in-Stops : goal.returns-in-Stops
-returns-in-Stops c = stops c.args.state c.args.number _ _ _ c.loop-out.b _ _ _ c.loop-out.invariant.0 _ _ c.take_body_line-step.ensures.0 _ c.step-1.given.1 (search rules)
+returns-in-Stops c = stops c.args.state c.args.number _ _ _ c.loop-out.b _ _ _ c.loop-out.invariant.0 _ _ c.take_body_line-step.ensures.steps _ c.step-1.given.1 (search rules)
 
 pub enum_known-step-in-Took-1 : goal.enum_known-step-in-Took-1
 enum_known-step-in-Took-1 c = search (laws, rules)
@@ -71,20 +71,20 @@ enum_known-step-in-Took-1 c = search (laws, rules)
 pub overflow_add-consumed : goal.overflow_add-consumed
 overflow_add-consumed c =
     let h : c.loop-out.consumed + c.step-in-Took-1.given.0.0 ≤ length c.args.input.now =
-    inside c.args.state c.args.number _ _ _ c.loop-out.b _ _ _ c.loop-out.invariant.0 _ _ c.take_body_line-step.ensures.0 _ _ _ c.step-in-Took-1.given.1 in omega (arith, h, c.well_formed.1.1.1.1.0)
+    inside c.args.state c.args.number _ _ _ c.loop-out.b _ _ _ c.loop-out.invariant.0 _ _ c.take_body_line-step.ensures.steps _ _ _ c.step-in-Took-1.given.1 in omega (arith, h, c.well_formed.1.1.1.1.0)
 
 pub overflow_add-written : goal.overflow_add-written
 overflow_add-written c =
     let h : c.loop-out.written + c.step-in-Took-1.given.0.1.0 ≤ length c.args.out.now =
-    within c.args.state c.args.number _ _ _ c.loop-out.b _ _ _ c.loop-out.invariant.0 _ _ c.take_body_line-step.ensures.0 _ _ _ c.step-in-Took-1.given.1 in omega (arith, h, c.well_formed.1.1.1.1.1.1.1.0)
+    within c.args.state c.args.number _ _ _ c.loop-out.b _ _ _ c.loop-out.invariant.0 _ _ c.take_body_line-step.ensures.steps _ _ _ c.step-in-Took-1.given.1 in omega (arith, h, c.well_formed.1.1.1.1.1.1.1.0)
 
 pub loop-out-smaller : goal.loop-out-smaller
-loop-out-smaller c = fewer c.args.state c.args.number _ _ _ c.loop-out.b _ _ _ c.loop-out.invariant.0 _ _ c.take_body_line-step.ensures.0 _ _ _ c.step-in-Took-1.given.1
+loop-out-smaller c = fewer c.args.state c.args.number _ _ _ c.loop-out.b _ _ _ c.loop-out.invariant.0 _ _ c.take_body_line-step.ensures.steps _ _ _ c.step-in-Took-1.given.1
 
 pub loop-out-preserved : goal.loop-out-preserved
 loop-out-preserved c = (
-  takes c.args.state c.args.number _ _ _ c.loop-out.b _ _ _ c.loop-out.invariant.0 _ _ c.take_body_line-step.ensures.0 _ _ _ c.step-in-Took-1.given.1 (search rules),
-  (keeps c.args.state c.args.number _ _ _ c.loop-out.b _ _ _ c.loop-out.invariant.0 _ _ c.take_body_line-step.ensures.0 _ _ _ c.step-in-Took-1.given.1 _ _ c.take_body_line-step.ensures.1, search rules),
+  takes c.args.state c.args.number _ _ _ c.loop-out.b _ _ _ c.loop-out.invariant.0 _ _ c.take_body_line-step.ensures.steps _ _ _ c.step-in-Took-1.given.1 (search rules),
+  (keeps c.args.state c.args.number _ _ _ c.loop-out.b _ _ _ c.loop-out.invariant.0 _ _ c.take_body_line-step.ensures.steps _ _ _ c.step-in-Took-1.given.1 _ _ c.take_body_line-step.ensures.keeps, search rules),
 )
 
 pub body_ran-requires-2 : goal.body_ran-requires-2

@@ -6,16 +6,16 @@ pub slice_bounds-body_line-end : goal.slice_bounds-body_line-end
 slice_bounds-body_line-end c = search line_size
 
 pub body_line-requires : goal.body_line-requires
-body_line-requires c = (search rules, (search line_one, search rules))
+body_line-requires c = record { in_bounds = search rules; line_value = search line_one; kept = search rules }
 
 pub returns-in-Starved : goal.returns-in-Starved
-returns-in-Starved c = (search starved_steps, tt)
+returns-in-Starved c = record { steps = search starved_steps; keeps = tt }
 
 pub returns-in-Nothing : goal.returns-in-Nothing
-returns-in-Nothing c = (search end_steps, tt)
+returns-in-Nothing c = record { steps = search end_steps; keeps = tt }
 
 pub returns-in-TooLong : goal.returns-in-TooLong
-returns-in-TooLong c = (search long_steps, tt)
+returns-in-TooLong c = record { steps = search long_steps; keeps = tt }
 
 pub returns-in-Line : goal.returns-in-Line
-returns-in-Line c = (search line_steps, search rules)
+returns-in-Line c = record { steps = search line_steps; keeps = search rules }

@@ -5,7 +5,7 @@ use Rattle.psv_stream.proofs.take_line.Goals as goal
 ruleset laws = (line_inside, line_steps, long_steps, end_steps, starved_steps)
 
 pub on_line-requires : goal.on_line-requires
-on_line-requires c = (search rules, (search (laws, rules), search rules))
+on_line-requires c = record { in_bounds = search rules; end_in_bounds = search (laws, rules); phase_value = search rules }
 
 pub returns-in-Starved : goal.returns-in-Starved
 returns-in-Starved c = search starved_steps
