@@ -31,7 +31,7 @@ pub slice_bounds-take_body_line-end-in-loop-out : goal.slice_bounds-take_body_li
 slice_bounds-take_body_line-end-in-loop-out c = search (laws, rules)
 
 pub take_body_line-step-requires : goal.take_body_line-step-requires
-take_body_line-step-requires c = (search (laws, rules), search rules)
+take_body_line-step-requires c = record { in_bounds = search (laws, rules); kept = search rules }
 
 pub enum_told-1 : goal.enum_told-1
 enum_told-1 c = search (laws, rules)
@@ -53,8 +53,8 @@ enum_known-step c = search (laws, rules)
 
 pub overflow_add-all : goal.overflow_add-all
 overflow_add-all c =
-    let h : c.loop-out.written + c.step-1.given.0.0 ≤ length c.args.out.now =
-    stops_within c.args.state c.args.number _ _ _ c.loop-out.b _ _ _ c.loop-out.invariant.0 _ _ c.take_body_line-step.ensures.steps _ c.step-1.given.1 in omega (arith, h, c.well_formed.1.1.1.1.1.1.1.0)
+    let h : c.loop-out.written + c.in-Stops.n ≤ length c.args.out.now =
+    stops_within c.args.state c.args.number _ _ _ c.loop-out.b _ _ _ c.loop-out.invariant.0 _ _ c.take_body_line-step.ensures.steps _ c.in-Stops.is in omega (arith, h, c.well_formed.1.1.1.1.1.1.1.0)
 
 pub shape_of-start-in-Stops : goal.shape_of-start-in-Stops
 shape_of-start-in-Stops c = search (laws, rules)
@@ -63,28 +63,28 @@ pub shape_of-out-in-Stops : goal.shape_of-out-in-Stops
 shape_of-out-in-Stops c = search (laws, rules)
 
 pub returns-in-Stops : goal.returns-in-Stops
-returns-in-Stops c = stops c.args.state c.args.number _ _ _ c.loop-out.b _ _ _ c.loop-out.invariant.0 _ _ c.take_body_line-step.ensures.steps _ c.step-1.given.1 (search rules)
+returns-in-Stops c = stops c.args.state c.args.number _ _ _ c.loop-out.b _ _ _ c.loop-out.invariant.0 _ _ c.take_body_line-step.ensures.steps _ c.in-Stops.is (search rules)
 
 pub enum_known-step-in-Took-1 : goal.enum_known-step-in-Took-1
 enum_known-step-in-Took-1 c = search (laws, rules)
 
 pub overflow_add-consumed : goal.overflow_add-consumed
 overflow_add-consumed c =
-    let h : c.loop-out.consumed + c.step-in-Took-1.given.0.0 ≤ length c.args.input.now =
-    inside c.args.state c.args.number _ _ _ c.loop-out.b _ _ _ c.loop-out.invariant.0 _ _ c.take_body_line-step.ensures.steps _ _ _ c.step-in-Took-1.given.1 in omega (arith, h, c.well_formed.1.1.1.1.0)
+    let h : c.loop-out.consumed + c.in-Took.bytes ≤ length c.args.input.now =
+    inside c.args.state c.args.number _ _ _ c.loop-out.b _ _ _ c.loop-out.invariant.0 _ _ c.take_body_line-step.ensures.steps _ _ _ c.in-Took.is in omega (arith, h, c.well_formed.1.1.1.1.0)
 
 pub overflow_add-written : goal.overflow_add-written
 overflow_add-written c =
-    let h : c.loop-out.written + c.step-in-Took-1.given.0.1.0 ≤ length c.args.out.now =
-    within c.args.state c.args.number _ _ _ c.loop-out.b _ _ _ c.loop-out.invariant.0 _ _ c.take_body_line-step.ensures.steps _ _ _ c.step-in-Took-1.given.1 in omega (arith, h, c.well_formed.1.1.1.1.1.1.1.0)
+    let h : c.loop-out.written + c.in-Took.n ≤ length c.args.out.now =
+    within c.args.state c.args.number _ _ _ c.loop-out.b _ _ _ c.loop-out.invariant.0 _ _ c.take_body_line-step.ensures.steps _ _ _ c.in-Took.is in omega (arith, h, c.well_formed.1.1.1.1.1.1.1.0)
 
 pub loop-out-smaller : goal.loop-out-smaller
-loop-out-smaller c = fewer c.args.state c.args.number _ _ _ c.loop-out.b _ _ _ c.loop-out.invariant.0 _ _ c.take_body_line-step.ensures.steps _ _ _ c.step-in-Took-1.given.1
+loop-out-smaller c = fewer c.args.state c.args.number _ _ _ c.loop-out.b _ _ _ c.loop-out.invariant.0 _ _ c.take_body_line-step.ensures.steps _ _ _ c.in-Took.is
 
 pub loop-out-preserved : goal.loop-out-preserved
 loop-out-preserved c = (
-  takes c.args.state c.args.number _ _ _ c.loop-out.b _ _ _ c.loop-out.invariant.0 _ _ c.take_body_line-step.ensures.steps _ _ _ c.step-in-Took-1.given.1 (search rules),
-  (keeps c.args.state c.args.number _ _ _ c.loop-out.b _ _ _ c.loop-out.invariant.0 _ _ c.take_body_line-step.ensures.steps _ _ _ c.step-in-Took-1.given.1 _ _ c.take_body_line-step.ensures.keeps, search rules),
+  takes c.args.state c.args.number _ _ _ c.loop-out.b _ _ _ c.loop-out.invariant.0 _ _ c.take_body_line-step.ensures.steps _ _ _ c.in-Took.is (search rules),
+  (keeps c.args.state c.args.number _ _ _ c.loop-out.b _ _ _ c.loop-out.invariant.0 _ _ c.take_body_line-step.ensures.steps _ _ _ c.in-Took.is _ _ c.take_body_line-step.ensures.keeps, search rules),
 )
 
 pub body_ran-requires-2 : goal.body_ran-requires-2

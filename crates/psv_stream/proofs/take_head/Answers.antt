@@ -56,7 +56,7 @@ enum_known-step c = search (laws, rules)
 
 pub overflow_add-all : goal.overflow_add-all
 overflow_add-all c =
-    let h : c.loop-out.written + c.step-1.given.0.0 ≤ length c.args.out.now = search laws in omega (arith, h)
+    let h : c.loop-out.written + c.in-Stops.n ≤ length c.args.out.now = search laws in omega (arith, h)
 
 pub shape_of-out-in-Stops : goal.shape_of-out-in-Stops
 shape_of-out-in-Stops c = search (laws, rules)
@@ -69,11 +69,11 @@ enum_known-step-in-Took-1 c = search (laws, rules)
 
 pub overflow_add-consumed : goal.overflow_add-consumed
 overflow_add-consumed c =
-    let h : c.loop-out.consumed + c.step-in-Took-1.given.0.0 ≤ length c.args.input.now = search laws in omega (arith, h)
+    let h : c.loop-out.consumed + c.in-Took.bytes ≤ length c.args.input.now = search laws in omega (arith, h)
 
 pub overflow_add-written : goal.overflow_add-written
 overflow_add-written c =
-    let h : c.loop-out.written + c.step-in-Took-1.given.0.1.0 ≤ length c.args.out.now = search laws in omega (arith, h)
+    let h : c.loop-out.written + c.in-Took.n ≤ length c.args.out.now = search laws in omega (arith, h)
 
 pub loop-out-smaller : goal.loop-out-smaller
 loop-out-smaller c = search fewer
