@@ -1,4 +1,4 @@
-/* The calls of Fernweeks, a proved reader of router tables. docs/LAYOUT.md says what crosses. Link with the archive of `rt staticlib collector`.
+/* The calls of Fernweeks, a proved reader of router tables. docs/LAYOUT.md says what crosses. Link with target/staticlib/libcollector.a (tools/build.py archive).
    A pointer is never null, also where its count is 0. */
 #ifndef FERNWEEKS_H
 #define FERNWEEKS_H

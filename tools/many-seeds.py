@@ -1,10 +1,11 @@
 #!/usr/bin/env python3
 """many-seeds.py FIRST LAST LIST..: the lists of make-vectors.py from other seeds, by hand.
 
-Run it at the top of the repository, with the programs built (`rt check`) and the path of a built oracle in the environment variable
-ORACLE. For each seed from FIRST to LAST and each LIST it makes the list anew in a folder of its own, runs target/bin/LIST_vectors over it,
-and holds what that prints to what it prints when every answer is right. At the end it says for each LIST how many cases ran, and how many
-of them were different questions (a part of each list is the same from every seed). Nothing in the repository is written.
+Run it at the top of the repository, with the programs built (by `rt ci`, or by `rt run` in their folders) and the path of a built oracle in the
+environment variable ORACLE. For each seed from FIRST to LAST and each LIST it makes the list anew in a folder of its own, runs
+crates/LIST_vectors/out/LIST_vectors over it, and holds what that prints to what it prints when every answer is right. At the end it says for each
+LIST how many cases ran, and how many of them were different questions (a part of each list is the same from every seed). Nothing in the repository
+is written.
 """
 import importlib.util
 import os
@@ -25,7 +26,7 @@ def generator():
 
 def main(first, last, names):
     make = generator()
-    programs = {name: os.path.abspath(f"target/bin/{name}_vectors") for name in names}
+    programs = {name: os.path.abspath(f"crates/{name}_vectors/out/{name}_vectors") for name in names}
     ran, different, wrong = dict.fromkeys(names, 0), {name: set() for name in names}, 0
     with tempfile.TemporaryDirectory() as folder:
         os.chdir(folder)

@@ -1,8 +1,8 @@
 //! Links into the bench what is at hand of the two programs that print PSV lines, and tells it what is not, and why.
 //!
 //! - The oracle: the crate in `oracle/`, over the sources in ../shared/oracle beside the repository, sets the cfg `oracle`.
-//! - table2psv: the object file that `rt check table2psv` leaves sets the cfg `table2psv`. Its main, read and write get names of
-//!   their own; the bench has the last two.
+//! - table2psv: the object file that `tools/build.py object` makes sets the cfg `table2psv`. Its main, read, write and lseek get names of
+//!   their own; the bench has the last three.
 
 use std::path::{Path, PathBuf};
 use std::process::Command;
@@ -53,19 +53,24 @@ fn oracle(here: &Path, out: &Path) -> Result<(), &'static str> {
 }
 
 fn table2psv(here: &Path, out: &Path) -> Result<(), &'static str> {
-    let proved = here.join("../../target/obj/table2psv.o");
+    let folder = here.join("../../target/obj");
+    let proved = folder.join("table2psv.o");
     println!("cargo:rerun-if-changed={}", proved.display());
     if !proved.is_file() {
-        return Err("there is no target/obj/table2psv.o (rt check table2psv makes it)");
+        return Err("there is no target/obj/table2psv.o (tools/build.py object makes it)");
     }
     let renamed = out.join("table2psv.o");
     let mut objcopy = Command::new("objcopy");
-    for name in ["main", "read", "write"] {
+    for name in ["main", "read", "write", "lseek"] {
         objcopy.arg(format!("--redefine-sym={name}=table2psv_{name}"));
     }
     if !objcopy.arg(&proved).arg(&renamed).status().is_ok_and(|status| status.success()) {
         return Err("objcopy is missing, or did not take target/obj/table2psv.o");
     }
     println!("cargo:rustc-link-arg={}", renamed.display());
+    // the C code of Rattle's standard library, as far as the program calls it
+    for archive in ["libos_c.a", "liblibc_c.a"] {
+        println!("cargo:rustc-link-arg={}", folder.join(archive).display());
+    }
     Ok(())
 }

@@ -19,7 +19,7 @@ fn main() {
     if !archive.is_file() {
         stop(&format!(
             "there is no {}\n\
-             Run `rt staticlib collector` in the repository's root, which proves the exported calls and writes\n\
+             Run `tools/build.py archive` in the repository's root, which proves the exported calls and writes\n\
              target/staticlib/libcollector.a; or set FERNWEEKS_LIB_DIR to the folder that has the archive.",
             archive.display()
         ));

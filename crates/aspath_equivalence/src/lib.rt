@@ -1,4 +1,6 @@
 // Whether two paths are equivalent, by their normal forms.
+#![tactic(auto)]
+
 ghost use Rattle.std.specs.Prelude.{◌≡◌};
 ghost use Rattle.aspath.specs.Record.{path, kinds_of, lengths_of, numbers_of};
 ghost use Rattle.aspath_normal.specs.Normal.{dedup_coalesce};

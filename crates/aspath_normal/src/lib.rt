@@ -1,4 +1,6 @@
 // The normal forms of a path, made in the lent lists.
+#![tactic(auto)]
+
 ghost use Rattle.std.specs.Prelude.{◌≡◌, ◌+◌, ◌≤◌, ◌<◌, ◌^◌, map, length, take, drop, replicate};
 ghost use Rattle.sort.specs.Dedup.{dedup};
 ghost use Rattle.aspath.specs.Lists.{sum};

@@ -1,4 +1,6 @@
 // The route walker (AsPathRouteIter): a struct that holds a path's lists and a route number, thin over the call for a route by its number.
+#![tactic(auto)]
+
 ghost use Rattle.std.specs.Prelude.{◌≡◌};
 ghost use Rattle.aspath.specs.Record.{path};
 ghost use Rattle.aspath_routes.specs.Routes.{Routed};

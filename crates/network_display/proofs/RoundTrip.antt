@@ -18,7 +18,7 @@ use Rattle.scan.specs.Lists.{split_by, onto}
 use Rattle.ipv4.specs.Parts.{parts, before, prepend, each, number}
 use Rattle.ipv4.specs.Ipv4.{leading_zero, octet, four, ipv4}
 use Rattle.ipv4.proofs.Parts.{later, parts_cons}
-use Rattle.ipv6.specs.Ipv6.{hex_digit, value_from, group, groups, side, gap, filled, eight, ipv6}
+use Rattle.ipv6.specs.Ipv6.{hex_digit, value_from, group, groups, side, gap, filled, ipv6}
 use Rattle.ipv6.proofs.Sides.{Below, below_append, groups_more}
 use Rattle.network.specs.Address.{either, address, as_address, read_address}
 use Rattle.network.specs.Prefix.{last_place, length_of, length_for, prefix, bits, as_prefix, read_prefix, valid_prefix}

@@ -1,4 +1,6 @@
 // Addresses and prefixes as text.
+#![tactic(auto)]
+
 ghost use Rattle.std.specs.Prelude.{◌≡◌, ◌≤◌, length};
 ghost use Rattle.output.specs.Output.{Written, front, answer};
 ghost use Rattle.network_display.specs.Text.{address_text, prefix_text};

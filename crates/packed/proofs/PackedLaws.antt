@@ -81,14 +81,14 @@ module _ (k : Packed) where
   prefix_four h = rw (ne_eqb k.version 6 h)
 
   -- whether there is a prefix, as the kind tells
-  pub bare_kind : k.kind < 2 → OneOf (0 ∷ 1 ∷ []) (tag_of the_type (remembered_in k))
+  pub bare_kind : k.kind < 2 → (p : NetworkPrefix) → remembered_in k ≡ Valid p → ⊥
   unfolding remembered_in
   bare_kind h = go k.kind h
     where
-      go : (n : ℕ) → n < 2 → OneOf (0 ∷ 1 ∷ []) (tag_of the_type (cond (eqb n 0) Nothing (cond (eqb n 1) Invalid (Valid (prefix_in k)))))
-      go zero g = inl refl
-      go (suc zero) g = inr refl
-      go (suc (suc n)) g = absurd (let f : ⊥ = omega arith in f)
+      go : (n : ℕ) → n < 2 → (p : NetworkPrefix) → cond (eqb n 0) Nothing (cond (eqb n 1) Invalid (Valid (prefix_in k))) ≡ Valid p → ⊥
+      go zero g p e = cc
+      go (suc zero) g p e = cc
+      go (suc (suc n)) g p e = absurd (omega arith)
 
   pub valid_kind : 2 ≤ k.kind → (p : NetworkPrefix) → p ≡ prefix_in k → remembered_in k ≡ Valid p
   valid_kind h p e = sym (back_valid (λ z. omega arith) (λ z. omega arith) p e)

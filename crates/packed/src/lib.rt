@@ -1,4 +1,6 @@
 // The remembered prefix as numbers, for a loop that keeps it: an enum that holds a struct would be copied through memory at each turn.
+#![tactic(auto)]
+
 ghost use Rattle.std.specs.Prelude.{◌≡◌};
 ghost use Rattle.plain_reader.specs.Rules.{replace};
 ghost use Rattle.text_dump.specs.State.{plain};

@@ -1,5 +1,5 @@
 -- The lines that print an element (models/bgp/elem.rs): texts with '|' between them; what is missing prints nothing.
-use Rattle.std.specs.Prelude.{ℕ, ◌≡◌, Bool, true, false, cond, List, [], ◌∷◌, ◌++◌, length, leb, Float}
+use Rattle.std.specs.Prelude.{ℕ, ◌≡◌, Bool, true, cond, List, [], ◌∷◌, ◌++◌, length, leb, Float}
 use Rattle.std.proofs.Math.Option.{Option, some, none}
 use Rattle.scan.specs.Ascii.{ascii}
 use Rattle.decimal_display.specs.Printed.{decimal}
@@ -16,7 +16,6 @@ use Rattle.elem.specs.Element.{numbers}
 use Rattle.elem.specs.declared.Element.{Element}
 use Rattle.elem.specs.declared.OptAsn.{OptAsn}
 use Rattle.elem.specs.declared.OptAsn.TheVariants as asn
-use Rattle.elem.specs.declared.Origin.{Origin}
 use Rattle.elem.specs.declared.Origin.TheVariants.{IGP, EGP, INCOMPLETE}
 use Rattle.elem.specs.declared.OptOrigin.{OptOrigin}
 use Rattle.elem.specs.declared.OptOrigin.TheVariants as origin

@@ -1,4 +1,6 @@
 // An element printed as the Rust prints it: the PSV line, its header, and Display.
+#![tactic(auto)]
+
 ghost use Rattle.std.specs.Prelude.{◌≡◌, true, false, ◌++◌, ◌+◌, ◌*◌, length, leb};
 ghost use Rattle.output.specs.Output.{Written, front, answer};
 ghost use Rattle.seconds.specs.Seconds.{second_of};

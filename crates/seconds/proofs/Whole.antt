@@ -1,5 +1,5 @@
 -- A float is the whole number n exactly where its bits are those of n's float. Assumes nothing.
-use Rattle.std.proofs.Common.{◌≡◌, ℕ, ◌+◌, ◌*◌, ◌/◌, ◌^◌, ◌<◌, ◌≤◌, Bool, true, false, cond, not, ◌&&◌, T, ltb, leb, pos, sym, refl, ap, ◌∙◌, subst, div-lt_iff_lt-mul, arith, le→leb, ltb→lt, lt→ltb, leb→le}
+use Rattle.std.proofs.Common.{◌≡◌, ℕ, ◌+◌, ◌*◌, ◌/◌, ◌^◌, ◌<◌, ◌≤◌, Bool, true, false, cond, not, ◌&&◌, T, ltb, pos, sym, refl, ap, ◌∙◌, subst, div-lt_iff_lt-mul, arith, le→leb, ltb→lt, lt→ltb, leb→le}
 use lib.Ieee.{Float, nan, inf, fin, binary64, up, down, lt, is_nan, fits, in_float, in_unsigned, to_unsigned, whole, of_int, to_bits, of_bits}
 use lib.Ieee.Fits.{down_pos, and_r, of_int-fits}
 use lib.Ieee.Exact.{HasValue}

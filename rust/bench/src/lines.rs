@@ -33,7 +33,7 @@ pub fn print(summed: bool, run: impl Fn(&mut Sink) -> Result<()>) -> Result<u64>
     Ok(sink.sum.unwrap_or(0))
 }
 
-/// table2psv: its main is called, and it calls the read and write that stand here in place of the C library's.
+/// table2psv: its main is called, and it calls the read, write and lseek that stand here in place of the C library's.
 #[cfg(table2psv)]
 pub mod table2psv {
     use super::Sink;
@@ -81,5 +81,11 @@ pub mod table2psv {
     unsafe extern "C" fn table2psv_write(_: i32, bytes: *const u8, len: usize) -> isize {
         let bytes = unsafe { slice::from_raw_parts(bytes, len) };
         with_ends(|_, output| output.write(bytes))
+    }
+
+    /// It is told that its input cannot be sought in, as that of a pipe.
+    #[no_mangle]
+    extern "C" fn table2psv_lseek(_: i32, _: i64, _: i32) -> i64 {
+        -1
     }
 }

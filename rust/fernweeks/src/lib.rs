@@ -1,6 +1,6 @@
 //! A reader of router tables (the listings that `show ip bgp` prints) that is proved correct.
 //!
-//! The reader is the archive that `rt staticlib collector` writes; this crate gives its calls Rust's types. A table is read in
+//! The reader is the archive that `tools/build.py archive` writes; this crate gives its calls Rust's types. A table is read in
 //! parts: [`State::open`] takes the header with the first part, [`State::next`] gives one element after the other until the part's
 //! end, [`State::turn`] goes to the next part and keeps the prefix that blank-prefix routes stand under.
 //!

@@ -25,4 +25,4 @@ pub coalesce_entries-left-requires : goal.coalesce_entries-left-requires
 coalesce_entries-left-requires c = fit_entries _ _ _ _ _ _ c.is_spoilt.ensures c.if-is_spoilt.false
 
 pub returns : goal.returns
-returns c = (coalesced_counts _ _ _ _ _ _ c.is_spoilt.ensures c.if-is_spoilt.false _ _ _ c.coalesce_entries-left.ensures, (coalesced_kinds _ _ _ _ _ _ c.is_spoilt.ensures c.if-is_spoilt.false _ _ _ c.coalesce_entries-left.ensures, coalesced_lengths _ _ _ _ _ _ c.is_spoilt.ensures c.if-is_spoilt.false _ _ _ c.coalesce_entries-left.ensures))
+returns c = record { value = coalesced_counts _ _ _ _ _ _ c.is_spoilt.ensures c.if-is_spoilt.false _ _ _ c.coalesce_entries-left.ensures; kinds = coalesced_kinds _ _ _ _ _ _ c.is_spoilt.ensures c.if-is_spoilt.false _ _ _ c.coalesce_entries-left.ensures; lengths = coalesced_lengths _ _ _ _ _ _ c.is_spoilt.ensures c.if-is_spoilt.false _ _ _ c.coalesce_entries-left.ensures }

@@ -1,7 +1,6 @@
-use Prim.Native.Nat.{◌-◌}
 use native.Mathlib.Omega.{arith}
-use lib.ListN.{length, length-set}
-use Rattle.aspath_normal.proofs.Merging.{Merging, at_most_one, no_overflow, turned, coalesced, first_entry, no_entries}
+use lib.ListN.{length-set}
+use Rattle.aspath_normal.proofs.Merging.{at_most_one, no_overflow, turned, coalesced, first_entry, no_entries}
 use borrow.Author.Rules.{rules}
 use Rattle.aspath_normal.proofs.coalesce_entries.Goals as goal
 

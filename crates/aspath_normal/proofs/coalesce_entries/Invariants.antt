@@ -1,8 +1,6 @@
 use Prim.Native.Nat.{◌-◌}
-use native.Mathlib.Omega.{arith}
-use lib.ListN.{length, length-set}
-use Rattle.aspath_normal.proofs.Merging.{Merging, at_most_one, no_overflow, turned, coalesced, first_entry, no_entries}
-use borrow.Author.Rules.{rules}
+use lib.ListN.{length}
+use Rattle.aspath_normal.proofs.Merging.{Merging}
 use Rattle.aspath_normal.proofs.coalesce_entries.Given as goal
 
 abbrev pub invariant-loop-i : goal.invariant-loop-i

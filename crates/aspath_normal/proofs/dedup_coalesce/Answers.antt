@@ -1,4 +1,3 @@
-use borrow.Author.Rules.{rules}
 use mathlib.Core.Path.{sym}
 use lib.Seq.{length-take-le}
 use Rattle.aspath_normal.specs.Normal.{dedup_coalesce}
@@ -6,7 +5,7 @@ use Rattle.aspath_normal.proofs.Answers.{refused, unchanged, kinds_there, length
 use Rattle.aspath_normal.proofs.dedup_coalesce.Goals as goal
 
 pub returns-then-is_spoilt : goal.returns-then-is_spoilt
-returns-then-is_spoilt c = (refused _ _ _ _ _ _ c.is_spoilt.ensures c.if-is_spoilt.true dedup_coalesce, (unchanged _ _ _ _ _ _ c.is_spoilt.ensures c.if-is_spoilt.true _ _ _, (unchanged _ _ _ _ _ _ c.is_spoilt.ensures c.if-is_spoilt.true _ _ _, unchanged _ _ _ _ _ _ c.is_spoilt.ensures c.if-is_spoilt.true _ _ _)))
+returns-then-is_spoilt c = record { value = refused _ _ _ _ _ _ c.is_spoilt.ensures c.if-is_spoilt.true dedup_coalesce; kinds = unchanged _ _ _ _ _ _ c.is_spoilt.ensures c.if-is_spoilt.true _ _ _; lengths = unchanged _ _ _ _ _ _ c.is_spoilt.ensures c.if-is_spoilt.true _ _ _; numbers = unchanged _ _ _ _ _ _ c.is_spoilt.ensures c.if-is_spoilt.true _ _ _ }
 
 pub slice_bounds-normalise-end : goal.slice_bounds-normalise-end
 slice_bounds-normalise-end c = kinds_there _ _ _ _ _ _ c.is_spoilt.ensures c.if-is_spoilt.false
@@ -30,4 +29,4 @@ pub normalise-left-requires : goal.normalise-left-requires
 normalise-left-requires c = fit _ _ _ _ _ _ c.is_spoilt.ensures c.if-is_spoilt.false
 
 pub returns : goal.returns
-returns c = (normal_counts _ _ _ _ _ _ c.is_spoilt.ensures c.if-is_spoilt.false _ _ _ _ _ c.normalise-left.ensures, (normal_kinds _ _ _ _ _ _ c.is_spoilt.ensures c.if-is_spoilt.false _ _ _ _ _ c.normalise-left.ensures, (normal_lengths _ _ _ _ _ _ c.is_spoilt.ensures c.if-is_spoilt.false _ _ _ _ _ c.normalise-left.ensures, normal_numbers _ _ _ _ _ _ c.is_spoilt.ensures c.if-is_spoilt.false _ _ _ _ _ c.normalise-left.ensures)))
+returns c = record { value = normal_counts _ _ _ _ _ _ c.is_spoilt.ensures c.if-is_spoilt.false _ _ _ _ _ c.normalise-left.ensures; kinds = normal_kinds _ _ _ _ _ _ c.is_spoilt.ensures c.if-is_spoilt.false _ _ _ _ _ c.normalise-left.ensures; lengths = normal_lengths _ _ _ _ _ _ c.is_spoilt.ensures c.if-is_spoilt.false _ _ _ _ _ c.normalise-left.ensures; numbers = normal_numbers _ _ _ _ _ _ c.is_spoilt.ensures c.if-is_spoilt.false _ _ _ _ _ c.normalise-left.ensures }

@@ -17,7 +17,7 @@ pub dedup_from-requires : goal.dedup_from-requires
 dedup_from-requires c = search (laws, rules)
 
 pub shape_of-t : goal.shape_of-t
-shape_of-t c = c.dedup_from.auto.0 ∙ simp length-set
+shape_of-t c = c.dedup_from.auto.t ∙ simp length-set
 
 pub returns : goal.returns
 returns c = all_down _ _ c.requires.0 c.requires.1 c.if-gap-t.false _ _ c.dedup_from.ensures

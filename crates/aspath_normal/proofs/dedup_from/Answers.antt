@@ -1,7 +1,6 @@
-use Prim.Native.Nat.{◌-◌}
 use native.Mathlib.Omega.{arith}
-use lib.ListN.{length, length-set}
-use Rattle.aspath_normal.proofs.Deduping.{Deduping, none_passed, equal_dropped, other_kept, all_passed}
+use lib.ListN.{length-set}
+use Rattle.aspath_normal.proofs.Deduping.{none_passed, equal_dropped, other_kept, all_passed}
 use borrow.Author.Rules.{rules}
 use Rattle.aspath_normal.proofs.dedup_from.Goals as goal
 

@@ -1,8 +1,6 @@
 use Prim.Native.Nat.{◌-◌}
-use native.Mathlib.Omega.{arith}
-use lib.ListN.{length, length-set}
-use Rattle.aspath_normal.proofs.Deduping.{Deduping, none_passed, equal_dropped, other_kept, all_passed}
-use borrow.Author.Rules.{rules}
+use lib.ListN.{length}
+use Rattle.aspath_normal.proofs.Deduping.{Deduping}
 use Rattle.aspath_normal.proofs.dedup_from.Given as goal
 
 abbrev pub invariant-loop-i : goal.invariant-loop-i

@@ -1,7 +1,6 @@
-use Prim.Native.Nat.{◌-◌}
 use native.Mathlib.Omega.{arith}
-use lib.ListN.{length, length-set}
-use Rattle.aspath_normal.proofs.Compacting.{Compacting, none_compacted, segment_end, segment_order, gap_of_zeros, no_more, compacted, all_compacted}
+use lib.ListN.{length-set}
+use Rattle.aspath_normal.proofs.Compacting.{none_compacted, segment_end, segment_order, gap_of_zeros, no_more, compacted, all_compacted}
 use borrow.Author.Rules.{rules}
 use Rattle.aspath_normal.proofs.dedup_segments.Goals as goal
 

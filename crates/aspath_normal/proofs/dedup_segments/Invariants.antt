@@ -1,8 +1,6 @@
 use Prim.Native.Nat.{◌-◌}
-use native.Mathlib.Omega.{arith}
-use lib.ListN.{length, length-set}
-use Rattle.aspath_normal.proofs.Compacting.{Compacting, none_compacted, segment_end, segment_order, gap_of_zeros, no_more, compacted, all_compacted}
-use borrow.Author.Rules.{rules}
+use lib.ListN.{length}
+use Rattle.aspath_normal.proofs.Compacting.{Compacting}
 use Rattle.aspath_normal.proofs.dedup_segments.Given as goal
 
 abbrev pub invariant-loop-i : goal.invariant-loop-i

@@ -1,7 +1,6 @@
-use Prim.Native.Nat.{◌-◌}
 use native.Mathlib.Omega.{arith}
-use lib.ListN.{length, length-set}
-use Rattle.aspath_normal.proofs.Sets.{Singling, none_single, singled, all_single}
+use lib.ListN.{length-set}
+use Rattle.aspath_normal.proofs.Sets.{none_single, singled, all_single}
 use borrow.Author.Rules.{rules}
 use Rattle.aspath_normal.proofs.single_sets.Goals as goal
 

@@ -1,8 +1,6 @@
 use Prim.Native.Nat.{◌-◌}
-use native.Mathlib.Omega.{arith}
-use lib.ListN.{length, length-set}
-use Rattle.aspath_normal.proofs.Sets.{Singling, none_single, singled, all_single}
-use borrow.Author.Rules.{rules}
+use lib.ListN.{length}
+use Rattle.aspath_normal.proofs.Sets.{Singling}
 use Rattle.aspath_normal.proofs.single_sets.Given as goal
 
 abbrev pub invariant-loop-i : goal.invariant-loop-i

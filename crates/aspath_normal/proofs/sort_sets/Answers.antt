@@ -1,7 +1,5 @@
-use Prim.Native.Nat.{◌-◌}
 use native.Mathlib.Omega.{arith}
-use lib.ListN.{length}
-use Rattle.aspath_normal.proofs.Sets.{SortingSets, none_sorted, set_end, sequence_passed, set_sorted, all_sorted}
+use Rattle.aspath_normal.proofs.Sets.{none_sorted, set_end, sequence_passed, set_sorted, all_sorted}
 use borrow.Author.Rules.{rules}
 use Rattle.aspath_normal.proofs.sort_sets.Goals as goal
 

@@ -1,8 +1,6 @@
 use Prim.Native.Nat.{◌-◌}
-use native.Mathlib.Omega.{arith}
 use lib.ListN.{length}
-use Rattle.aspath_normal.proofs.Sets.{SortingSets, none_sorted, set_end, sequence_passed, set_sorted, all_sorted}
-use borrow.Author.Rules.{rules}
+use Rattle.aspath_normal.proofs.Sets.{SortingSets}
 use Rattle.aspath_normal.proofs.sort_sets.Given as goal
 
 abbrev pub invariant-loop-i : goal.invariant-loop-i

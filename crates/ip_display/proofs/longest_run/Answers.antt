@@ -1,8 +1,6 @@
 use mathlib.Core.Path.{◌≡◌}
-use Prim.Native.Nat.{◌+◌, ◌≤◌}
-use lib.ListN.{length, drop}
+use lib.ListN.{length}
 use borrow.Author.Rules.{rules}
-use Rattle.ip_display.specs.Groups.{zeros, longest, first_run}
 use Rattle.ip_display.proofs.Writing.{run_start, run_zeros, run_bound, run_longer, run_here, run_kept, run_later, run_found}
 use Rattle.ip_display.proofs.longest_run.Goals as goal
 
@@ -10,8 +8,8 @@ ruleset laws = (run_start, run_zeros, run_bound, run_longer, run_here, run_kept,
 
 pub loop-i-init : goal.loop-i-init
 loop-i-init c =
-    let e : length c.args.t1 ≡ 8 = search rules in
-    (e, search rules, search rules, (run_start c.args.t1 e).0, (run_start c.args.t1 e).1, (run_start c.args.t1 e).2)
+    let e : length c.args.g ≡ 8 = search rules in
+    (e, search rules, search rules, (run_start c.args.g e).0, (run_start c.args.g e).1, (run_start c.args.g e).2)
 
 pub overflow_sub-i : goal.overflow_sub-i
 overflow_sub-i c = search (laws, rules)

@@ -1,9 +1,7 @@
 use mathlib.Core.Path.{◌≡◌}
 use Prim.Native.Nat.{◌+◌, ◌≤◌}
 use lib.ListN.{length, drop}
-use borrow.Author.Rules.{rules}
 use Rattle.ip_display.specs.Groups.{zeros, longest, first_run}
-use Rattle.ip_display.proofs.Writing.{run_start, run_zeros, run_bound, run_longer, run_here, run_kept, run_later, run_found}
 use Rattle.ip_display.proofs.longest_run.Given as goal
 
 abbrev pub invariant-loop-i : goal.invariant-loop-i

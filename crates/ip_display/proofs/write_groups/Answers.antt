@@ -1,9 +1,5 @@
-use mathlib.Core.Path.{◌≡◌}
-use Prim.Native.Nat.{◌-◌}
-use lib.ListN.{length, take, drop}
 use borrow.Author.Rules.{rules}
-use Rattle.output.proofs.Output.{Left, all_left}
-use Rattle.ip_display.specs.Text.{behind_colons}
+use Rattle.output.proofs.Output.{all_left}
 use Rattle.ip_display.proofs.Writing.{no_groups_lem, next_group, all_groups}
 use Rattle.ip_display.proofs.write_groups.Goals as goal
 

@@ -1,10 +1,8 @@
 use mathlib.Core.Path.{◌≡◌}
 use Prim.Native.Nat.{◌-◌}
 use lib.ListN.{length, take, drop}
-use borrow.Author.Rules.{rules}
-use Rattle.output.proofs.Output.{Left, all_left}
+use Rattle.output.proofs.Output.{Left}
 use Rattle.ip_display.specs.Text.{behind_colons}
-use Rattle.ip_display.proofs.Writing.{no_groups_lem, next_group, all_groups}
 use Rattle.ip_display.proofs.write_groups.Given as goal
 
 abbrev pub invariant-loop-i : goal.invariant-loop-i

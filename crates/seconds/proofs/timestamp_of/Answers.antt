@@ -1,4 +1,4 @@
-use Rattle.std.proofs.Common.{rules, le-ltb, lt-ltb}
+use Rattle.std.proofs.Common.{le-ltb, lt-ltb}
 use Rattle.seconds.specs.Seconds.{timestamp_of}
 use Rattle.seconds.proofs.timestamp_of.Goals as goal
 

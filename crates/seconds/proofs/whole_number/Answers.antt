@@ -1,11 +1,10 @@
 -- `seconds::whole_number` meets its contract: x is the whole number n exactly where its bits are those of n's float.
 -- Assumes nothing.
 use Rattle.std.proofs.Common.{T, sym, subst, arith}
-use lib.Ieee.{binary64, fits, in_unsigned, to_unsigned, of_bits, neg}
+use lib.Ieee.{binary64, in_unsigned, to_unsigned, of_bits, neg}
 use Rattle.seconds.proofs.Whole.{no_nan, whole_no_nan, exact, not_over, not_under, no, found, other_bits, too_large}
 -- what owning an `f64` tells: the format holds it
 use Rattle.seconds.proofs.whole_number.Goals as goal
-
 
 pub truncating_f64_to_u64-n-requires : goal.truncating_f64_to_u64-n-requires
 unfolding of_bits neg
