@@ -194,10 +194,7 @@ module _ (w : List ℕ) where
         go (some σ) e = let z : ◌≡◌ {A = ℕ} 0 1 = cc in absurd (omega arith)
         go none e = refl
 
-    module _ (h : not (p && small && m) ≡ false) where
-      all : (p && small && m) ≡ true
-      all = not-false (p && small && m) h
-
+    module _ (all : (p && small && m) ≡ true) where
       but_memory : (p && small) ≡ true
       but_memory = and_left (p && small) m all
 

@@ -1,4 +1,6 @@
 // The calls that other languages make: numbers and byte slices alone. State and element cross as bytes of fixed lengths (docs/LAYOUT.md).
+#![tactic(auto)]
+
 ghost use Rattle.std.specs.Prelude.{◌≡◌, cond, ◌++◌, ◌≤◌, length, take, drop};
 ghost use Rattle.output.specs.Output.{front};
 ghost use Rattle.text_dump_header.specs.Header.{header};
@@ -67,8 +69,7 @@ fn put_element(e: Element, element: &mut [u8])
 }
 
 // 1 for a table, else 0.
-#[unsafe(no_mangle)]
-pub extern "C" fn fernweeks_detect(bytes: &[u8]) -> u32
+pub fn fernweeks_detect(bytes: &[u8]) -> u32
     ensures { result ≡ cond (detect bytes.now) 1 0 }
 {
     if text_dump_header::detect_text_dump(bytes) {
@@ -79,8 +80,7 @@ pub extern "C" fn fernweeks_detect(bytes: &[u8]) -> u32
 }
 
 // The line at fault where opening answers 1, from 1; else 0.
-#[unsafe(no_mangle)]
-pub extern "C" fn fernweeks_line_at_fault(text: &[u8]) -> u64
+pub fn fernweeks_line_at_fault(text: &[u8]) -> u64
     ensures { result ≡ line_at_fault (header text.now) }
 {
     match text_dump_header::parse_header(text) {
@@ -89,8 +89,7 @@ pub extern "C" fn fernweeks_line_at_fault(text: &[u8]) -> u64
     }
 }
 
-#[unsafe(no_mangle)]
-pub extern "C" fn fernweeks_open(text: &[u8], timestamp: f64, state: &mut [u8]) -> u32
+pub fn fernweeks_open(text: &[u8], timestamp: f64, state: &mut [u8]) -> u32
     ensures { (result, state.new) ≡ open_left text.now timestamp state.old }
 {
     if state.len() < STATE_LEN {
@@ -107,13 +106,7 @@ pub extern "C" fn fernweeks_open(text: &[u8], timestamp: f64, state: &mut [u8]) 
     }
 }
 
-#[unsafe(no_mangle)]
-pub extern "C" fn fernweeks_next(
-    state: &mut [u8],
-    part: &[u8],
-    asns: &mut [u32],
-    element: &mut [u8],
-) -> u32
+pub fn fernweeks_next(state: &mut [u8], part: &[u8], asns: &mut [u32], element: &mut [u8]) -> u32
     ensures { left result state.new asns.new element.new ≡ next_left state.old part.now asns.old element.old }
 {
     if state.len() < STATE_LEN {
@@ -141,8 +134,7 @@ pub extern "C" fn fernweeks_next(
     }
 }
 
-#[unsafe(no_mangle)]
-pub extern "C" fn fernweeks_turn(state: &mut [u8]) -> u32
+pub fn fernweeks_turn(state: &mut [u8]) -> u32
     ensures { (result, state.new) ≡ turn_left state.old }
 {
     if state.len() < STATE_LEN {

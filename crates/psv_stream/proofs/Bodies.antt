@@ -113,7 +113,7 @@ module _ (σ : State) (b : Place) (start : List ℕ) (n : ℕ) (kept : Kept σ s
     begun_behind k f = rw f (text_keeps (front_of σ) start n (remembered_in b.memory) b.start_len kept.begins x m g)
 
     -- without a valid prefix
-    module _ (o : OneOf (0 ∷ 1 ∷ []) (tag_of the_type m)) where
+    module _ (o : (p : NetworkPrefix) → m ≡ remembered.Valid p → ⊥) where
       pub bare : (out : List ℕ) → BodyDoes σ b l out out (step.Took (length l) 0 (there (length l) q 0))
       bare = moves q 0 (other_route here l 16384 one fine_here (read.Route e x) c x e refl m brought o)
 

@@ -172,13 +172,13 @@ module _ (p₀ : Phase) (s : List ℕ) (ended : Bool) (out₀ : List ℕ) (h : R
   pub runs_head : b ≡ true → Runs p₀ s ended out₀ h out
   runs_head f = runs p₀ s ended out₀ h.phase h.consumed h.written out known.came h.starved known.wants_input (λ e. inr (known.wants_room e (sym told ∙ f)))
 
-  other : (p : Phase) → is_head p ≡ false → OneOf (0 ∷ 1 ∷ 3 ∷ []) (tag_of the_type p) → p ≡ Stopped
+  other : (p : Phase) → is_head p ≡ false → ((σ : State) (n : ℕ) → p ≡ Body σ n → ⊥) → p ≡ Stopped
   other Path f o = absurd (false≢true (sym f))
   other (Header t n size) f o = absurd (false≢true (sym f))
-  other (Body σ n) f o = ⊎_elim (λ e. absurd (omega (arith, e))) (λ o. ⊎_elim (λ e. absurd (omega (arith, e))) (λ e. absurd (omega (arith, e))) o) o
+  other (Body σ n) f o = absurd (o σ n refl)
   other Stopped f o = refl
 
-  pub runs_stopped : b ≡ false → OneOf (0 ∷ 1 ∷ 3 ∷ []) (tag_of the_type h.phase) → Runs p₀ s ended out₀ h out
+  pub runs_stopped : b ≡ false → ((σ : State) (n : ℕ) → h.phase ≡ Body σ n → ⊥) → Runs p₀ s ended out₀ h out
   runs_stopped f o = runs p₀ s ended out₀ h.phase h.consumed h.written out known.came h.starved known.wants_input (λ e. inl (other h.phase (sym told ∙ f) o))
 
 -- and else the body goes on from there

@@ -1,4 +1,6 @@
 // The program table2psv as a function of the bytes at hand: which bytes are to be printed, and what is left for when more input has come.
+#![tactic(auto)]
+
 ghost use Rattle.std.specs.Prelude.{◌≡◌, ℕ, ◌<◌, ◌≤◌, true, false, List, [], ◌∷◌, ◌++◌, length, take};
 ghost use Rattle.scan.specs.Lines.{lines};
 ghost use Rattle.psv.specs.Line.{header_text, between_text};

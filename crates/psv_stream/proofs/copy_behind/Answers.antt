@@ -1,0 +1,6 @@
+use Rattle.psv_stream.proofs.Routes.{copied}
+use Rattle.std.proofs.Common.{rules}
+use Rattle.psv_stream.proofs.copy_behind.Goals as goal
+
+pub returns : goal.returns
+returns c = search copied
