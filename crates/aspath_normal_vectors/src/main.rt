@@ -4,10 +4,13 @@
 // A question is a call's name (or one that begins with it) and a record: its kinds, lengths and numbers (bytes; four for each
 // number) and its two counts; for equivalence two records. Places behind the counts are lent too. `all` asks coalesce and then
 // dedup_coalesce of one record, with one digit for each kind, length and number. An answer ends with all places that were lent.
+#![tactic(auto)]
+
 use aspath_equivalence::Equivalence;
 use aspath_normal::Normalised;
 use cases::Tally;
 use path_cases::Loaded;
+use std::io;
 
 fn put_counts(out: &mut [u8], at: usize, segments: usize, count: usize) -> usize {
     let k = cases::put_decimal(out, at, segments as u64);
@@ -286,6 +289,7 @@ fn answer(
 }
 
 fn one(
+    rt: &impl Print,
     t: Tally,
     list: &[u8],
     at: usize,
@@ -297,24 +301,25 @@ fn one(
     lengths2: &mut [u32],
     numbers2: &mut [u32],
     out: &mut [u8],
-) -> Tally {
+) -> io::Result<Tally> {
     let line = cases::line(list, at);
     let k = answer(
         line, kinds, s, lengths, numbers, kinds2, lengths2, numbers2, out,
     );
-    cases::count(t, list, at, cases::part(out, 0, k))
+    cases::count(rt, t, list, at, cases::part(out, 0, k))
 }
 
-fn turn(t: Tally, list: &[u8], at: usize) -> Tally {
+fn turn(rt: &impl Print, t: Tally, list: &[u8], at: usize) -> io::Result<Tally> {
     let mut kinds = [0u8; 64];
-    let mut s = io::buffer();
+    let mut s = [0; 4096];
     let mut lengths = [0u32; 64];
     let mut numbers = [0u32; 256];
     let mut kinds2 = [0u8; 64];
     let mut lengths2 = [0u32; 64];
     let mut numbers2 = [0u32; 256];
-    let mut out = io::buffer();
+    let mut out = [0; 4096];
     one(
+        rt,
         t,
         list,
         at,
@@ -329,20 +334,20 @@ fn turn(t: Tally, list: &[u8], at: usize) -> Tally {
     )
 }
 
-fn run(list: &[u8]) {
+fn run(rt: &impl Print, list: &[u8]) -> io::Result<()> {
     let mut t = cases::start();
     let mut at = 0;
     while at < list.len() {
-        t = turn(t, list, at);
+        t = turn(rt, t, list, at)?;
         at = cases::after(list, at);
     }
-    cases::report(t, list);
+    cases::report(rt, t, list)
 }
 
-fn main() {
+fn main(rt: HostRuntime) -> io::Result<()> {
     let mut list = cases::list_buffer();
-    let n = io::read_full(os::open_read(b"cases.txt"), &mut list);
-    run(&list[..n]);
-    let m = io::read_full(os::open_read(b"three.txt"), &mut list);
-    run(&list[..m]);
+    let n = cases::load(&rt, &mut list)?;
+    run(&rt, &list[..n])?;
+    let m = cases::read_file(&rt, "three.txt", &mut list)?;
+    run(&rt, &list[..m])
 }

@@ -3,12 +3,15 @@
 // A question is a call's name (or one that begins with it), the record's kinds, lengths and numbers (bytes; four for each
 // number), its two counts, the call's argument and how many places or bytes are lent to it. `all` asks every call of one
 // record, with one digit for each kind, length and number; the argument is then the number of bytes lent.
+#![tactic(auto)]
+
 use aspath::{RouteLen, Variations};
 use aspath_display::Shown;
 use aspath_numbers::{Contains, End};
 use aspath_routes::{Route, U32Vec};
 use cases::Tally;
 use path_cases::Loaded;
+use std::io;
 
 fn put_len(out: &mut [u8], at: usize, r: RouteLen) -> usize {
     let RouteLen::Len(n) = r else {
@@ -446,6 +449,7 @@ fn load_any(
 }
 
 fn counted(
+    rt: &impl Print,
     t: Tally,
     list: &[u8],
     at: usize,
@@ -455,13 +459,14 @@ fn counted(
     places: &mut [u32],
     bytes: &mut [u8],
     out: &mut [u8],
-) -> Tally {
+) -> io::Result<Tally> {
     let line = cases::line(list, at);
     let k = answer(line, kinds, lengths, numbers, places, bytes, out);
-    cases::count(t, list, at, cases::part(out, 0, k))
+    cases::count(rt, t, list, at, cases::part(out, 0, k))
 }
 
 fn one(
+    rt: &impl Print,
     t: Tally,
     list: &[u8],
     at: usize,
@@ -472,12 +477,13 @@ fn one(
     places: &mut [u32],
     bytes: &mut [u8],
     out: &mut [u8],
-) -> Tally {
+) -> io::Result<Tally> {
     let n = load_any(cases::line(list, at), kinds, s, lengths, numbers);
     let nk = n.kinds;
     let nl = n.lengths;
     let nn = n.numbers;
     counted(
+        rt,
         t,
         list,
         at,
@@ -490,15 +496,16 @@ fn one(
     )
 }
 
-fn turn(t: Tally, list: &[u8], at: usize) -> Tally {
+fn turn(rt: &impl Print, t: Tally, list: &[u8], at: usize) -> io::Result<Tally> {
     let mut kinds = [0u8; 64];
-    let mut s = io::buffer();
+    let mut s = [0; 4096];
     let mut lengths = [0u32; 64];
     let mut numbers = [0u32; 256];
     let mut places = [7u32; 300];
-    let mut bytes = io::buffer();
-    let mut out = io::buffer();
+    let mut bytes = [0; 4096];
+    let mut out = [0; 4096];
     one(
+        rt,
         t,
         list,
         at,
@@ -512,20 +519,20 @@ fn turn(t: Tally, list: &[u8], at: usize) -> Tally {
     )
 }
 
-fn run(list: &[u8]) {
+fn run(rt: &impl Print, list: &[u8]) -> io::Result<()> {
     let mut t = cases::start();
     let mut at = 0;
     while at < list.len() {
-        t = turn(t, list, at);
+        t = turn(rt, t, list, at)?;
         at = cases::after(list, at);
     }
-    cases::report(t, list);
+    cases::report(rt, t, list)
 }
 
-fn main() {
+fn main(rt: HostRuntime) -> io::Result<()> {
     let mut list = cases::list_buffer();
-    let n = io::read_full(os::open_read(b"cases.txt"), &mut list);
-    run(&list[..n]);
-    let m = io::read_full(os::open_read(b"three.txt"), &mut list);
-    run(&list[..m]);
+    let n = cases::load(&rt, &mut list)?;
+    run(&rt, &list[..n])?;
+    let m = cases::read_file(&rt, "three.txt", &mut list)?;
+    run(&rt, &list[..m])
 }

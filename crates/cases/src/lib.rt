@@ -267,7 +267,7 @@ pub fn put_yes_no(out: &mut [u8], at: usize, yes: bool) -> usize {
 }
 
 // What is counted of the group at hand, one of whose lines starts at `line`.
-#[derive(Drop)]
+#[derive(Clone, Copy)]
 pub struct Tally {
     pub line: usize,
     pub cases: u64,

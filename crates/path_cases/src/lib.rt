@@ -67,7 +67,7 @@ pub fn first_bytes(s: &mut [u8], n: usize) -> &mut [u8] {
 }
 
 // How many of each a record has.
-#[derive(Drop)]
+#[derive(Clone, Copy)]
 pub struct Loaded {
     pub kinds: usize,
     pub lengths: usize,

@@ -1,9 +1,12 @@
 // Reads a path line and a listing from standard input, and prints the PSV lines of its elements (01, the program table2psv).
-use libc::{STDIN_FILENO, STDOUT_FILENO};
+#![tactic(auto)]
+
 use psv_stream::Phase;
+use std::io;
+use std::io::Read;
 
 // What is kept from turn to turn: the phase, how many bytes of the input are there, whether more are wanted, and whether there are no more.
-#[derive(Drop)]
+#[derive(Clone, Copy)]
 struct Turn {
     phase: Phase,
     filled: usize,
@@ -16,52 +19,44 @@ fn first(s: &[u8], n: usize) -> &[u8] {
     if s.len() < n { s } else { &s[..n] }
 }
 
-// Reads behind the bytes that are there: how many there are then. A read that fails counts as the input's end.
-fn read_more(input: &mut [u8], filled: usize) -> usize {
+// Reads behind the bytes that are there, as many as one read gives: how many there are then.
+fn read_more<R: Read>(reader: &mut R, input: &mut [u8], filled: usize) -> io::Result<usize> {
     if input.len() < filled {
-        return filled;
+        return Ok(filled);
     }
-    let free = &mut input[filled..];
-    let got = libc::read(STDIN_FILENO, free);
-    filled + io::count(got, free)
+    let got = reader.read(&mut input[filled..])?;
+    Ok(filled + got)
 }
 
-fn read(t: Turn, input: &mut [u8]) -> Turn {
+fn read<R: Read>(reader: &mut R, t: Turn, input: &mut [u8]) -> io::Result<Turn> {
     if !t.starved {
-        return t;
+        return Ok(t);
     }
-    let filled = read_more(input, t.filled);
+    let filled = read_more(reader, input, t.filled)?;
     let phase = t.phase;
-    Turn {
+    Ok(Turn {
         phase,
         filled,
         starved: true,
         ended: filled == t.filled,
-    }
+    })
 }
 
 // Runs over the bytes that are there, prints, and moves those that are not consumed to the front.
-fn print(t: Turn, input: &mut [u8], out: &mut [u8]) -> Turn {
+fn print(rt: &impl Print, t: Turn, input: &mut [u8], out: &mut [u8]) -> io::Result<Turn> {
     let phase = t.phase;
     let filled = t.filled;
     let ended = t.ended;
     let ran = psv_stream::run(phase, first(input, filled), ended, out);
     let next = ran.phase;
     let consumed = ran.consumed;
-    if io::write_all(STDOUT_FILENO, first(out, ran.written)) {
-        return Turn {
-            phase: next,
-            filled: input::keep(input, consumed, filled),
-            starved: ran.starved,
-            ended,
-        };
-    }
-    Turn {
-        phase: Phase::Stopped,
-        filled,
-        starved: false,
+    rt.write_all(first(out, ran.written))?;
+    Ok(Turn {
+        phase: next,
+        filled: input::keep(input, consumed, filled),
+        starved: ran.starved,
         ended,
-    }
+    })
 }
 
 fn is_stopped(phase: Phase) -> bool {
@@ -74,7 +69,12 @@ fn is_stopped(phase: Phase) -> bool {
 }
 
 // A count of turns stands for the input's end, of which nothing is known: it is never reached.
-fn print_all(input: &mut [u8], out: &mut [u8]) {
+fn print_all<R: Read>(
+    rt: &impl Print,
+    reader: &mut R,
+    input: &mut [u8],
+    out: &mut [u8],
+) -> io::Result<()> {
     let mut t = Turn {
         phase: Phase::Path,
         filled: 0,
@@ -83,13 +83,15 @@ fn print_all(input: &mut [u8], out: &mut [u8]) {
     };
     let mut turns: u64 = 18446744073709551615;
     while 0 < turns {
-        t = print(read(t, input), input, out);
+        let more = read(reader, t, input)?;
+        t = print(rt, more, input, out)?;
         let phase = t.phase;
         if is_stopped(phase) {
-            return;
+            return Ok(());
         }
         turns -= 1;
     }
+    Ok(())
 }
 
 fn input_buffer() -> [u8; 262144] {
@@ -100,8 +102,8 @@ fn output_buffer() -> [u8; 524288] {
     [0; 524288]
 }
 
-fn main() {
+fn main(rt: HostRuntime) -> io::Result<()> {
     let mut input = input_buffer();
     let mut out = output_buffer();
-    print_all(&mut input, &mut out);
+    print_all(&rt, &mut rt.stdin(), &mut input, &mut out)
 }

@@ -1,7 +1,10 @@
 // Runs the cases of `timestamp` and `seconds` (data/cases.txt) and prints a line for each group.
+#![tactic(auto)]
+
 use cases::Tally;
 use output::Put;
 use seconds::{SecondRead, TimestampRead};
+use std::io;
 use timestamp::Inferred;
 
 // A timestamp as it is printed.
@@ -41,27 +44,34 @@ fn answer(line: &[u8], path: &[u8], out: &mut [u8]) -> usize {
 }
 
 // One line, with the buffers for its byte string and for the answer.
-fn one(t: Tally, list: &[u8], at: usize, s: &mut [u8], out: &mut [u8]) -> Tally {
+fn one(
+    rt: &impl Print,
+    t: Tally,
+    list: &[u8],
+    at: usize,
+    s: &mut [u8],
+    out: &mut [u8],
+) -> io::Result<Tally> {
     let line = cases::line(list, at);
     let n = cases::hex(cases::field(line, 1), s);
     let k = answer(line, cases::part(s, 0, n), out);
-    cases::count(t, list, at, cases::part(out, 0, k))
+    cases::count(rt, t, list, at, cases::part(out, 0, k))
 }
 
-fn turn(t: Tally, list: &[u8], at: usize) -> Tally {
-    let mut s = io::buffer();
-    let mut out = io::buffer();
-    one(t, list, at, &mut s, &mut out)
+fn turn(rt: &impl Print, t: Tally, list: &[u8], at: usize) -> io::Result<Tally> {
+    let mut s = [0; 4096];
+    let mut out = [0; 4096];
+    one(rt, t, list, at, &mut s, &mut out)
 }
 
-fn run(list: &[u8]) {
+fn run(rt: &impl Print, list: &[u8]) -> io::Result<()> {
     let mut t = cases::start();
     let mut at = 0;
     while at < list.len() {
-        t = turn(t, list, at);
+        t = turn(rt, t, list, at)?;
         at = cases::after(list, at);
     }
-    cases::report(t, list);
+    cases::report(rt, t, list)
 }
 
 // Room for the list: 1 MiB.
@@ -69,8 +79,8 @@ fn room() -> [u8; 1048576] {
     [0; 1048576]
 }
 
-fn main() {
+fn main(rt: HostRuntime) -> io::Result<()> {
     let mut list = room();
-    let n = io::read_full(os::open_read(b"cases.txt"), &mut list);
-    run(&list[..n]);
+    let n = cases::read_file(&rt, "cases.txt", &mut list)?;
+    run(&rt, &list[..n])
 }
