@@ -1,11 +1,9 @@
 use mathlib.Core.Path.{◌≡◌}
-use mathlib.Core.Bool.{false, ◌||◌, or_assoc, or-false}
+use mathlib.Core.Bool.{◌||◌}
 use Prim.Native.Nat.{◌-◌, ◌≤◌}
 use lib.ListN.{drop}
 use Rattle.aspath.specs.Record.{segments_of}
-use Rattle.aspath.specs.Queries.{no_route, empty_set}
-use Rattle.aspath.proofs.Record.{kind_there, length_there, shape_more, shape_end}
-use borrow.Author.Rules.{rules}
+use Rattle.aspath.specs.Queries.{no_route}
 use Rattle.aspath.proofs.has_empty_set.Given as goal
 
 abbrev pub invariant-loop-i : goal.invariant-loop-i

@@ -1,8 +1,3 @@
-use mathlib.Core.Path.{◌≡◌}
-use Prim.Native.Nat.{◌*◌, ◌-◌, ◌^◌, ◌≤◌, ◌<◌}
-use lib.ListN.{drop}
-use Rattle.aspath.specs.Record.{segments_of}
-use Rattle.aspath.specs.Queries.{variations}
 use Rattle.aspath.proofs.Record.{kind_there, length_there}
 use Rattle.aspath.proofs.Queries.{choice_there, variations_start, variations_more, variations_fit, variations_over, variations_end}
 use borrow.Author.Rules.{rules}

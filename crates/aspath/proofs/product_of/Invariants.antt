@@ -3,9 +3,6 @@ use Prim.Native.Nat.{◌*◌, ◌-◌, ◌^◌, ◌≤◌, ◌<◌}
 use lib.ListN.{drop}
 use Rattle.aspath.specs.Record.{segments_of}
 use Rattle.aspath.specs.Queries.{variations}
-use Rattle.aspath.proofs.Record.{kind_there, length_there}
-use Rattle.aspath.proofs.Queries.{choice_there, variations_start, variations_more, variations_fit, variations_over, variations_end}
-use borrow.Author.Rules.{rules}
 use Rattle.aspath.proofs.product_of.Given as goal
 
 abbrev pub invariant-loop-i : goal.invariant-loop-i

@@ -1,9 +1,3 @@
-use mathlib.Core.Path.{◌≡◌}
-use mathlib.Core.Bool.{false}
-use Prim.Native.Nat.{◌+◌, ◌-◌, ◌≤◌}
-use lib.ListN.{drop}
-use Rattle.aspath.specs.Record.{spoilt, segments_of}
-use Rattle.aspath.specs.Queries.{route_len}
 use Rattle.aspath.proofs.Record.{spoilt_path, passed, kind_there, length_there}
 use Rattle.aspath.proofs.Queries.{route_len_more, route_len_fits, route_len_end}
 use borrow.Author.Rules.{rules}

@@ -1,8 +1,4 @@
-use mathlib.Core.Path.{◌≡◌}
 use native.Mathlib.Omega.{arith}
-use Prim.Native.Nat.{◌≤◌, ◌-◌, ◌+◌, ◌*◌}
-use lib.ListN.{length, drop}
-use Rattle.aspath.specs.Lists.{sum}
 use Rattle.aspath.proofs.Lists.{sum_more, sum_end}
 use borrow.Author.Rules.{rules}
 use Rattle.aspath.proofs.sum_lengths.Goals as goal

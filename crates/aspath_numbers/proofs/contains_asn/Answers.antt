@@ -2,7 +2,6 @@ use native.Mathlib.Omega.{arith}
 use lib.ListN.{length-take}
 use Rattle.aspath.proofs.Record.{spoilt_path, passed, unspoilt_record}
 use Rattle.aspath_numbers.proofs.Among.{contains_is}
-use borrow.Author.Rules.{rules}
 use Rattle.aspath_numbers.proofs.contains_asn.Goals as goal
 
 pub returns-then-is_spoilt : goal.returns-then-is_spoilt

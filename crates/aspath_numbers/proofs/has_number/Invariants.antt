@@ -4,8 +4,6 @@ use Prim.Native.Nat.{◌≤◌, ◌-◌}
 use lib.Dec.{eqb}
 use lib.ListN.{length, drop}
 use Rattle.aspath.specs.Lists.{any}
-use Rattle.aspath.proofs.Lists.{any_more, any_end}
-use borrow.Author.Rules.{rules}
 use Rattle.aspath_numbers.proofs.has_number.Given as goal
 
 abbrev pub invariant-loop-i : goal.invariant-loop-i

@@ -2,11 +2,8 @@ use mathlib.Core.Path.{◌≡◌}
 use Prim.Native.Nat.{◌+◌, ◌-◌, ◌≤◌}
 use lib.ListN.{length, drop}
 use Rattle.aspath.specs.Record.{segments_of}
-use Rattle.aspath.proofs.Record.{length_there}
-use Rattle.aspath.proofs.Walk.{Place, place_start, place_next, numbers_end, place_fits, length_fits, end_fits}
+use Rattle.aspath.proofs.Walk.{Place}
 use Rattle.aspath_routes.specs.Joined.{joined}
-use Rattle.aspath_routes.proofs.Joined.{joined_more, joined_end, joined_small, sum_fits}
-use borrow.Author.Rules.{rules}
 use Rattle.aspath_routes.proofs.count_joined.Given as goal
 
 abbrev pub invariant-loop-i : goal.invariant-loop-i

@@ -2,8 +2,6 @@ use mathlib.Core.Path.{◌≡◌}
 use Prim.Native.Nat.{◌+◌, ◌-◌, ◌≤◌}
 use lib.ListN.{length, drop}
 use Rattle.aspath_routes.specs.Runs.{after, runs}
-use Rattle.aspath_routes.proofs.Runs.{count_none, count_first, count_end, count_repeat, count_new}
-use borrow.Author.Rules.{rules}
 use Rattle.aspath_routes.proofs.count_runs.Given as goal
 
 abbrev pub invariant-loop-j : goal.invariant-loop-j

@@ -1,10 +1,6 @@
-use mathlib.Core.Path.{◌≡◌}
 use mathlib.Core.Bool.{true, ◌&&◌, and_assoc, and-true}
-use Prim.Native.Nat.{◌-◌, ◌≤◌}
-use lib.ListN.{drop}
-use Rattle.aspath.specs.Record.{segments_of}
 use Rattle.aspath.proofs.Record.{kind_there, length_there, shape_more, shape_end}
-use Rattle.aspath_routes.specs.Joined.{simple, all_simple}
+use Rattle.aspath_routes.specs.Joined.{simple}
 use borrow.Author.Rules.{rules}
 use Rattle.aspath_routes.proofs.is_simple.Goals as goal
 

@@ -1,11 +1,6 @@
-use mathlib.Core.Path.{◌≡◌}
-use Prim.Native.Nat.{◌-◌, ◌≤◌}
-use lib.ListN.{length, drop}
-use Rattle.output.proofs.Output.{Left, all_left}
-use Rattle.aspath.specs.Record.{segments_of}
+use Rattle.output.proofs.Output.{all_left}
 use Rattle.aspath.proofs.Record.{length_there}
-use Rattle.aspath.proofs.Walk.{Place, place_start, place_next, numbers_end, place_fits, length_fits, end_fits}
-use Rattle.aspath_routes.specs.Joined.{joined}
+use Rattle.aspath.proofs.Walk.{place_start, place_next, numbers_end, place_fits, length_fits, end_fits}
 use Rattle.aspath_routes.proofs.Joined.{write_more, write_last}
 use borrow.Author.Rules.{rules}
 use Rattle.aspath_routes.proofs.write_joined.Goals as goal

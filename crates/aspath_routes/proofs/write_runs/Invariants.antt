@@ -1,10 +1,8 @@
 use mathlib.Core.Path.{◌≡◌}
 use Prim.Native.Nat.{◌-◌, ◌≤◌}
 use lib.ListN.{length, drop}
-use Rattle.output.proofs.Output.{Left, all_left}
+use Rattle.output.proofs.Output.{Left}
 use Rattle.aspath_routes.specs.Runs.{after}
-use Rattle.aspath_routes.proofs.Runs.{write_none, write_first, write_end, write_repeat, write_new}
-use borrow.Author.Rules.{rules}
 use Rattle.aspath_routes.proofs.write_runs.Given as goal
 
 abbrev pub invariant-loop-j : goal.invariant-loop-j

@@ -2,7 +2,6 @@ use mathlib.Core.Path.{◌∙◌}
 use Rattle.calendar.specs.Calendar.{total, entry}
 use Rattle.calendar.proofs.Table.{values, at}
 use Rattle.calendar.proofs.Years.{entry_counts}
-use borrow.Author.Rules.{rules}
 use Rattle.calendar.proofs.days_before_in_cycle.Goals as goal
 
 pub returns : goal.returns

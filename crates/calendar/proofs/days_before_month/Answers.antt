@@ -2,7 +2,6 @@ use mathlib.Core.Bool.{true, false}
 use native.Mathlib.Omega.{arith}
 use Rattle.calendar.specs.Calendar.{total, month_length}
 use Rattle.calendar.proofs.Table.{values, at}
-use borrow.Author.Rules.{rules}
 use Rattle.calendar.proofs.days_before_month.Goals as goal
 
 pub returns-then-leap : goal.returns-then-leap

@@ -1,7 +1,6 @@
 use Prim.Native.Nat.{◌%◌}
 use native.Mathlib.Omega.{arith}
 use Rattle.calendar.proofs.Years.{by_table, year_bound}
-use borrow.Author.Rules.{rules}
 use Rattle.calendar.proofs.days_before_year.Goals as goal
 
 pub overflow_add-result : goal.overflow_add-result

@@ -1,8 +1,4 @@
-use mathlib.Core.Path.{◌≡◌}
-use Prim.Native.Nat.{suc, ◌-◌}
-use lib.ListN.{length}
 use borrow.Author.Rules.{rules}
-use Rattle.columns.specs.Columns.{or_else, place_from, place}
 use Rattle.columns.proofs.Laws.{word_less, walk_starts, walk_ends, named, not_named}
 use Rattle.columns.proofs.last_place.Goals as goal
 

@@ -1,10 +1,8 @@
 use mathlib.Core.Path.{◌≡◌}
 use Prim.Native.Nat.{◌-◌}
 use lib.ListN.{length, drop}
-use borrow.Author.Rules.{rules}
 use Rattle.scan.specs.Words.{words}
 use Rattle.columns.specs.Columns.{begins, words_begin}
-use Rattle.columns.proofs.Laws.{word_order, word_start, word_end, word_less, name_starts, name_ends, line_ends, word_differs, word_agrees}
 use Rattle.columns.proofs.words_begin.Given as goal
 
 abbrev pub invariant-name : goal.invariant-name

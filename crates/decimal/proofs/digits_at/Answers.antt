@@ -1,6 +1,4 @@
-use lib.ListN.{length}
-use Prim.Native.Nat.{◌-◌}
-use Rattle.decimal.proofs.Leading.{Run, run_starts, run_end, run_low, run_high, run_many, run_product, run_sum, run_more}
+use Rattle.decimal.proofs.Leading.{run_starts, run_end, run_low, run_high, run_many, run_product, run_sum, run_more}
 use borrow.Author.Rules.{rules}
 use Rattle.decimal.proofs.digits_at.Goals as goal
 

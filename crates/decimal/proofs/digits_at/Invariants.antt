@@ -1,7 +1,6 @@
 use lib.ListN.{length}
 use Prim.Native.Nat.{◌-◌}
-use Rattle.decimal.proofs.Leading.{Run, run_starts, run_end, run_low, run_high, run_many, run_product, run_sum, run_more}
-use borrow.Author.Rules.{rules}
+use Rattle.decimal.proofs.Leading.{Run}
 use Rattle.decimal.proofs.digits_at.Given as goal
 
 abbrev pub invariant-loop-i : goal.invariant-loop-i

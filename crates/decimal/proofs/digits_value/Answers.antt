@@ -1,6 +1,5 @@
 use native.Mathlib.Omega.{arith}
 use Rattle.decimal.proofs.FrontValue.{at_most_eight, lanes_small, lanes_make}
-use borrow.Author.Rules.{rules}
 use Rattle.decimal.proofs.digits_value.Goals as goal
 
 pub overflow_mul-n : goal.overflow_mul-n

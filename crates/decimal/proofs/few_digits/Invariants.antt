@@ -2,8 +2,6 @@ use mathlib.Core.Path.{◌≡◌}
 use Prim.Native.Nat.{◌-◌, ◌^◌, ◌≤◌, ◌<◌}
 use lib.ListN.{length, drop}
 use Rattle.decimal.specs.Decimal.{behind, digits}
-use Rattle.decimal.proofs.Reading.{no_digit, start, few_end, low, high, more, few_more, few_sum, few_product}
-use borrow.Author.Rules.{rules}
 use Rattle.decimal.proofs.few_digits.Given as goal
 
 abbrev pub invariant-loop-i : goal.invariant-loop-i

@@ -1,8 +1,4 @@
-use mathlib.Core.Path.{◌≡◌}
-use Prim.Native.Nat.{◌≤◌, ◌<◌, ◌-◌, ◌^◌}
-use lib.ListN.{length, drop}
 use borrow.Author.Rules.{rules}
-use Rattle.decimal.specs.Decimal.{behind, digits}
 use Rattle.decimal.proofs.Reading.{no_digit, start, at_end_lem, low, high, more, over_tens, over_ones}
 use Rattle.decimal.proofs.many_digits.Goals as goal
 

@@ -1,4 +1,3 @@
-use borrow.Author.Rules.{rules}
 use Rattle.decimal.proofs.Reading.{none32, small32, large32}
 use Rattle.decimal.proofs.read_u32.Goals as goal
 

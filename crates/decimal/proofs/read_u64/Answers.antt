@@ -1,4 +1,3 @@
-use borrow.Author.Rules.{rules}
 use Rattle.decimal.proofs.Reading.{no_text, plus, bare}
 use Rattle.decimal.proofs.read_u64.Goals as goal
 

@@ -1,6 +1,6 @@
-use Rattle.std.proofs.Common.{◌-◌, ◌*◌, ◌^◌, ◌<◌, ◌≤◌, rules}
+use Rattle.std.proofs.Common.{rules}
 use Rattle.ipv4.proofs.Ipv4.{room, room_for, octets_grow}
-use Rattle.fields.proofs.FrontLaws.{OctetsTo, octets_start, octet_below, dot_inside, dot_fits, dot_near, octets_more, address_there, address_none}
+use Rattle.fields.proofs.FrontLaws.{octets_start, octet_below, dot_inside, dot_fits, dot_near, octets_more, address_there, address_none}
 use Rattle.fields.proofs.address_front.Goals as goal
 
 ruleset laws = (room, room_for, octets_grow, octets_start, octet_below, dot_inside, dot_fits, dot_near, octets_more, address_there, address_none)

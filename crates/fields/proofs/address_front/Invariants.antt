@@ -1,6 +1,5 @@
-use Rattle.std.proofs.Common.{◌-◌, ◌*◌, ◌^◌, ◌<◌, ◌≤◌, rules}
-use Rattle.ipv4.proofs.Ipv4.{room, room_for, octets_grow}
-use Rattle.fields.proofs.FrontLaws.{OctetsTo, octets_start, octet_below, dot_inside, dot_fits, dot_near, octets_more, address_there, address_none}
+use Rattle.std.proofs.Common.{◌-◌, ◌*◌, ◌^◌, ◌<◌, ◌≤◌}
+use Rattle.fields.proofs.FrontLaws.{OctetsTo}
 use Rattle.fields.proofs.address_front.Given as goal
 
 abbrev pub invariant-loop-k : goal.invariant-loop-k

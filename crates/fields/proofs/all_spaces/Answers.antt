@@ -1,6 +1,4 @@
-use Rattle.std.proofs.Common.{◌≡◌, ◌-◌, ◌≤◌, length, drop, refl, rules}
-use Rattle.utf8.specs.Utf8.{all}
-use Rattle.fields.specs.Fronts.{is_blank}
+use Rattle.std.proofs.Common.{refl, rules}
 use Rattle.fields.proofs.SpaceLaws.{spaces_from, spaces_none, spaces_far}
 use Rattle.fields.proofs.all_spaces.Goals as goal
 

@@ -1,7 +1,6 @@
-use Rattle.std.proofs.Common.{◌≡◌, ◌-◌, ◌≤◌, length, drop, refl, rules}
+use Rattle.std.proofs.Common.{◌≡◌, ◌-◌, ◌≤◌, length, drop}
 use Rattle.utf8.specs.Utf8.{all}
 use Rattle.fields.specs.Fronts.{is_blank}
-use Rattle.fields.proofs.SpaceLaws.{spaces_from, spaces_none, spaces_far}
 use Rattle.fields.proofs.all_spaces.Given as goal
 
 abbrev pub invariant-loop-i : goal.invariant-loop-i

@@ -1,5 +1,4 @@
-use Rattle.std.proofs.Common.{◌≡◌, ◌-◌, length, drop, refl, rules}
-use Rattle.text.specs.White.{trim_start}
+use Rattle.std.proofs.Common.{refl, rules}
 use Rattle.fields.proofs.BlankLaws.{number_later, number_here, number_none}
 use Rattle.fields.proofs.number_behind_spaces.Goals as goal
 

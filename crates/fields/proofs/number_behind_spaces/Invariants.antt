@@ -1,6 +1,5 @@
-use Rattle.std.proofs.Common.{◌≡◌, ◌-◌, length, drop, refl, rules}
+use Rattle.std.proofs.Common.{◌≡◌, ◌-◌, length, drop}
 use Rattle.text.specs.White.{trim_start}
-use Rattle.fields.proofs.BlankLaws.{number_later, number_here, number_none}
 use Rattle.fields.proofs.number_behind_spaces.Given as goal
 
 abbrev pub invariant-loop-i : goal.invariant-loop-i

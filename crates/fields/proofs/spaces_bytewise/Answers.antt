@@ -1,6 +1,4 @@
-use Rattle.std.proofs.Common.{◌≡◌, ◌-◌, length, drop, refl, rules}
-use Rattle.utf8.specs.Utf8.{all}
-use Rattle.fields.specs.Fronts.{is_blank}
+use Rattle.std.proofs.Common.{refl, rules}
 use Rattle.fields.proofs.SpaceLaws.{spaces_end, spaces_other, spaces_more}
 use Rattle.fields.proofs.spaces_bytewise.Goals as goal
 

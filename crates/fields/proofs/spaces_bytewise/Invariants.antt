@@ -1,7 +1,6 @@
-use Rattle.std.proofs.Common.{◌≡◌, ◌-◌, length, drop, refl, rules}
+use Rattle.std.proofs.Common.{◌≡◌, ◌-◌, length, drop}
 use Rattle.utf8.specs.Utf8.{all}
 use Rattle.fields.specs.Fronts.{is_blank}
-use Rattle.fields.proofs.SpaceLaws.{spaces_end, spaces_other, spaces_more}
 use Rattle.fields.proofs.spaces_bytewise.Given as goal
 
 abbrev pub invariant-loop-i : goal.invariant-loop-i

@@ -1,6 +1,4 @@
-use Rattle.std.proofs.Common.{◌≡◌, ◌-◌, ◌≤◌, take, drop, rules}
-use Rattle.utf8.specs.Utf8.{all}
-use Rattle.fields.specs.Fronts.{is_blank}
+use Rattle.std.proofs.Common.{rules}
 use Rattle.fields.proofs.SpaceLaws.{near_none, near_more, near_all}
 use Rattle.fields.proofs.spaces_near.Goals as goal
 

@@ -1,7 +1,6 @@
-use Rattle.std.proofs.Common.{◌≡◌, ◌-◌, ◌≤◌, take, drop, rules}
+use Rattle.std.proofs.Common.{◌≡◌, ◌-◌, ◌≤◌, take, drop}
 use Rattle.utf8.specs.Utf8.{all}
 use Rattle.fields.specs.Fronts.{is_blank}
-use Rattle.fields.proofs.SpaceLaws.{near_none, near_more, near_all}
 use Rattle.fields.proofs.spaces_near.Given as goal
 
 abbrev pub invariant-loop-k : goal.invariant-loop-k

@@ -1,10 +1,8 @@
 use mathlib.Core.Path.{◌≡◌}
 use Prim.Native.Nat.{◌+◌, ◌-◌, ◌≤◌}
 use lib.ListN.{length, drop}
-use borrow.Author.Rules.{rules}
 use Rattle.decimal.specs.Decimal.{behind}
 use Rattle.ipv4.specs.Parts.{before}
-use Rattle.ipv4.proofs.Ipv4.{dot_length, dot_value, last_length, last_value, more_length, digit_low, digit_high, more_value, over}
 use Rattle.ipv4.proofs.octet.Given as goal
 
 abbrev pub invariant-loop-i : goal.invariant-loop-i

@@ -1,10 +1,5 @@
-use mathlib.Core.Path.{◌≡◌}
-use Prim.Native.Nat.{◌^◌, ◌-◌, ◌<◌, ◌≤◌}
-use lib.ListN.{length, drop}
 use borrow.Author.Rules.{rules}
-use Rattle.ipv4.specs.Parts.{parts, each}
-use Rattle.ipv4.specs.Ipv4.{octet, ipv4}
-use Rattle.ipv4.proofs.Ipv4.{four_from, four_start, stop, value_small, too_few, whole, next, too_many, room, room_for, octets_grow}
+use Rattle.ipv4.proofs.Ipv4.{four_start, stop, value_small, too_few, whole, next, too_many, room, room_for, octets_grow}
 use Rattle.ipv4.proofs.read_ipv4.Goals as goal
 
 ruleset laws = (four_start, stop, value_small, too_few, whole, next, too_many, room, room_for, octets_grow)

@@ -1,8 +1,4 @@
-use mathlib.Core.Path.{◌≡◌}
-use Prim.Native.Nat.{◌-◌}
-use lib.ListN.{replicate}
 use borrow.Author.Rules.{rules}
-use Rattle.ipv6.specs.Groups.{push_all}
 use Rattle.ipv6.proofs.Sides.{fill_more, fill_n, fill_end}
 use Rattle.ipv6.proofs.fill.Goals as goal
 

@@ -1,9 +1,7 @@
 use mathlib.Core.Path.{◌≡◌}
 use Prim.Native.Nat.{◌-◌}
 use lib.ListN.{replicate}
-use borrow.Author.Rules.{rules}
 use Rattle.ipv6.specs.Groups.{push_all}
-use Rattle.ipv6.proofs.Sides.{fill_more, fill_n, fill_end}
 use Rattle.ipv6.proofs.fill.Given as goal
 
 abbrev pub invariant-loop-n : goal.invariant-loop-n

@@ -1,8 +1,4 @@
-use mathlib.Core.Path.{◌≡◌}
-use Prim.Native.Nat.{◌+◌, ◌-◌, ◌≤◌}
-use lib.ListN.{length, drop}
 use borrow.Author.Rules.{rules}
-use Rattle.ipv6.specs.Ipv6.{gap}
 use Rattle.ipv6.proofs.Ipv6.{gap_start, gap_last, gap_here, gap_later}
 use Rattle.ipv6.proofs.gap.Goals as goal
 

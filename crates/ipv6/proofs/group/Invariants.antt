@@ -1,10 +1,8 @@
 use mathlib.Core.Path.{◌≡◌}
 use Prim.Native.Nat.{◌^◌, ◌-◌, ◌<◌, ◌≤◌}
 use lib.ListN.{length, drop}
-use borrow.Author.Rules.{rules}
 use Rattle.ipv4.specs.Parts.{each}
 use Rattle.ipv6.specs.Ipv6.{hex_digit, value_from}
-use Rattle.ipv6.proofs.Ipv6.{group_empty, group_long, group_from, group_whole, group_stop, group_more, hex_room, hex_room_for, hex_grows, hex_fits}
 use Rattle.ipv6.proofs.group.Given as goal
 
 abbrev pub invariant-loop-i : goal.invariant-loop-i

@@ -1,10 +1,4 @@
-use mathlib.Core.Path.{◌≡◌}
-use Prim.Native.Nat.{◌≤◌}
-use lib.ListN.{length}
 use borrow.Author.Rules.{rules}
-use Rattle.ipv4.specs.Parts.{parts, before}
-use Rattle.ipv6.specs.Ipv6.{groups, side}
-use Rattle.ipv6.specs.Groups.{side_from}
 use Rattle.ipv4.proofs.Parts.{take_count}
 use Rattle.ipv6.proofs.Sides.{push_le, side_empty, side_start, side_last, side_stop, side_full, side_next}
 use Rattle.ipv6.proofs.side.Goals as goal

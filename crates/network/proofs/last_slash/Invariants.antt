@@ -1,9 +1,7 @@
 use mathlib.Core.Path.{◌≡◌}
 use Prim.Native.Nat.{◌≤◌}
 use lib.ListN.{length, drop}
-use borrow.Author.Rules.{rules}
 use Rattle.network.specs.Prefix.{last_place}
-use Rattle.network.proofs.Reading.{last_here, last_before, last_none, last_start}
 use Rattle.network.proofs.last_slash.Given as goal
 
 abbrev pub invariant-loop-i : goal.invariant-loop-i

@@ -1,7 +1,5 @@
-use mathlib.Core.Path.{◌≡◌}
-use Prim.Native.Nat.{◌-◌, ◌≤◌}
-use lib.ListN.{length, length-set}
-use lib.Seq.{paste, paste-zero}
+use lib.ListN.{length-set}
+use lib.Seq.{paste-zero}
 use Rattle.output.proofs.Output.{copied, all_copied}
 use borrow.Author.Rules.{rules}
 use Rattle.output.proofs.copy_few.Goals as goal

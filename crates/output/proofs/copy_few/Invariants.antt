@@ -1,9 +1,7 @@
 use mathlib.Core.Path.{◌≡◌}
 use Prim.Native.Nat.{◌-◌, ◌≤◌}
-use lib.ListN.{length, length-set}
-use lib.Seq.{paste, paste-zero}
-use Rattle.output.proofs.Output.{copied, all_copied}
-use borrow.Author.Rules.{rules}
+use lib.ListN.{length}
+use lib.Seq.{paste}
 use Rattle.output.proofs.copy_few.Given as goal
 
 abbrev pub invariant-loop-i : goal.invariant-loop-i

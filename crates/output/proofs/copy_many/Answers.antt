@@ -1,7 +1,4 @@
-use mathlib.Core.Path.{◌≡◌}
-use Prim.Native.Nat.{◌-◌, ◌≤◌}
-use lib.ListN.{length}
-use lib.Seq.{paste, paste-zero}
+use lib.Seq.{paste-zero}
 use Rattle.output.proofs.Output.{eight_more, eight_last}
 use borrow.Author.Rules.{rules}
 use Rattle.output.proofs.copy_many.Goals as goal

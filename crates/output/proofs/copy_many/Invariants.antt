@@ -1,9 +1,7 @@
 use mathlib.Core.Path.{◌≡◌}
 use Prim.Native.Nat.{◌-◌, ◌≤◌}
 use lib.ListN.{length}
-use lib.Seq.{paste, paste-zero}
-use Rattle.output.proofs.Output.{eight_more, eight_last}
-use borrow.Author.Rules.{rules}
+use lib.Seq.{paste}
 use Rattle.output.proofs.copy_many.Given as goal
 
 abbrev pub invariant-loop-i : goal.invariant-loop-i

@@ -1,6 +1,5 @@
 use native.Mathlib.Omega.{arith}
 use Rattle.word.proofs.At.{added}
-use borrow.Author.Rules.{rules}
 use Rattle.output.proofs.eight_at.Goals as goal
 
 pub returns : goal.returns

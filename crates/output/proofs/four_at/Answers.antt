@@ -1,6 +1,5 @@
 use native.Mathlib.Omega.{arith}
 use Rattle.output.proofs.Output.{four_added}
-use borrow.Author.Rules.{rules}
 use Rattle.output.proofs.four_at.Goals as goal
 
 pub returns : goal.returns

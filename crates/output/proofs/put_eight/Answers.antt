@@ -2,7 +2,6 @@ use native.Mathlib.Omega.{arith}
 use native.Mathlib.Numerals.{add-one, add-two, add-three, add-four, add_five, add_six, add_seven}
 use lib.ListN.{length-set}
 use Rattle.output.proofs.Output.{eight_stored}
-use borrow.Author.Rules.{rules}
 use Rattle.output.proofs.put_eight.Goals as goal
 
 pub bounds-out-at-2 : goal.bounds-out-at-2

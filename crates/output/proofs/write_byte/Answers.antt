@@ -1,5 +1,4 @@
 use Rattle.output.proofs.Output.{byte_written, no_room}
-use borrow.Author.Rules.{rules}
 use Rattle.output.proofs.write_byte.Goals as goal
 
 pub returns-then-at-out : goal.returns-then-at-out

@@ -1,5 +1,4 @@
 use Rattle.output.proofs.Output.{bytes_written}
-use borrow.Author.Rules.{rules}
 use Rattle.output.proofs.write_bytes.Goals as goal
 
 pub returns-then-n-ge8 : goal.returns-then-n-ge8

@@ -1,8 +1,4 @@
-use mathlib.Core.Path.{◌≡◌, refl}
-use Prim.Native.Nat.{◌-◌}
-use lib.ListN.{length}
-use Rattle.scan.specs.Lists.{end_while}
-use Rattle.scan.specs.Lines.{not_feed}
+use mathlib.Core.Path.{refl}
 use Rattle.scan.proofs.ListLaws.{scan_end}
 use Rattle.scan.proofs.LineLaws.{feed_here, feed_later}
 use borrow.Author.Rules.{rules}

@@ -3,8 +3,6 @@ use Prim.Native.Nat.{◌-◌, ◌≤◌}
 use lib.ListN.{take, drop}
 use Rattle.scan.specs.Lists.{any_of}
 use Rattle.scan.specs.Lines.{is_feed}
-use Rattle.scan.proofs.LineLaws.{near_none, near_more, near_all}
-use borrow.Author.Rules.{rules}
 use Rattle.scan.proofs.feed_near.Given as goal
 
 abbrev pub invariant-loop-k : goal.invariant-loop-k

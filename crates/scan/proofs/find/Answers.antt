@@ -1,7 +1,4 @@
-use mathlib.Core.Path.{◌≡◌, refl}
-use Prim.Native.Nat.{◌≤◌, ◌-◌}
-use lib.ListN.{length, drop}
-use Rattle.scan.specs.Search.{find_in, find_from}
+use mathlib.Core.Path.{refl}
 use Rattle.scan.proofs.SearchLaws.{found_here, found_nowhere, found_later}
 use borrow.Author.Rules.{rules}
 use Rattle.scan.proofs.find.Goals as goal

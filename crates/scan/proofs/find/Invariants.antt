@@ -1,9 +1,7 @@
-use mathlib.Core.Path.{◌≡◌, refl}
+use mathlib.Core.Path.{◌≡◌}
 use Prim.Native.Nat.{◌≤◌, ◌-◌}
 use lib.ListN.{length, drop}
 use Rattle.scan.specs.Search.{find_in, find_from}
-use Rattle.scan.proofs.SearchLaws.{found_here, found_nowhere, found_later}
-use borrow.Author.Rules.{rules}
 use Rattle.scan.proofs.find.Given as goal
 
 abbrev pub invariant-loop-at : goal.invariant-loop-at

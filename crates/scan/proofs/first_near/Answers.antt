@@ -1,5 +1,4 @@
-use Prim.Native.Nat.{◌-◌, ◌≤◌}
-use Rattle.scan.proofs.LineLaws.{Least, least_none, least_more, least_all}
+use Rattle.scan.proofs.LineLaws.{least_none, least_more, least_all}
 use borrow.Author.Rules.{rules}
 use Rattle.scan.proofs.first_near.Goals as goal
 

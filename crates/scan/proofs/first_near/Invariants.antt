@@ -1,6 +1,5 @@
 use Prim.Native.Nat.{◌-◌, ◌≤◌}
-use Rattle.scan.proofs.LineLaws.{Least, least_none, least_more, least_all}
-use borrow.Author.Rules.{rules}
+use Rattle.scan.proofs.LineLaws.{Least}
 use Rattle.scan.proofs.first_near.Given as goal
 
 abbrev pub invariant-loop-k : goal.invariant-loop-k

@@ -1,8 +1,4 @@
-use mathlib.Core.Path.{◌≡◌, refl}
-use Prim.Native.Nat.{◌-◌}
-use lib.ListN.{length}
-use Rattle.scan.specs.Lists.{end_while}
-use Rattle.scan.specs.Words.{is_gap}
+use mathlib.Core.Path.{refl}
 use Rattle.scan.proofs.WordLaws.{gap_stops, gap_on}
 use Rattle.scan.proofs.ListLaws.{scan_end}
 use borrow.Author.Rules.{rules}

@@ -1,11 +1,8 @@
-use mathlib.Core.Path.{◌≡◌, refl}
+use mathlib.Core.Path.{◌≡◌}
 use Prim.Native.Nat.{◌-◌}
 use lib.ListN.{length}
 use Rattle.scan.specs.Lists.{end_while}
 use Rattle.scan.specs.Words.{is_gap}
-use Rattle.scan.proofs.WordLaws.{gap_stops, gap_on}
-use Rattle.scan.proofs.ListLaws.{scan_end}
-use borrow.Author.Rules.{rules}
 use Rattle.scan.proofs.gap_end.Given as goal
 
 abbrev pub invariant-loop-i : goal.invariant-loop-i

@@ -1,7 +1,4 @@
-use mathlib.Core.Path.{◌≡◌, refl}
-use Prim.Native.Nat.{◌≤◌, ◌-◌}
-use lib.ListN.{length, drop}
-use Rattle.scan.specs.Search.{equal}
+use mathlib.Core.Path.{refl}
 use Rattle.scan.proofs.SearchLaws.{equal_length, all_equal, byte_differs, byte_same}
 use borrow.Author.Rules.{rules}
 use Rattle.scan.proofs.same.Goals as goal

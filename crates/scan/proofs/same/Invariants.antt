@@ -1,9 +1,7 @@
-use mathlib.Core.Path.{◌≡◌, refl}
+use mathlib.Core.Path.{◌≡◌}
 use Prim.Native.Nat.{◌≤◌, ◌-◌}
 use lib.ListN.{length, drop}
 use Rattle.scan.specs.Search.{equal}
-use Rattle.scan.proofs.SearchLaws.{equal_length, all_equal, byte_differs, byte_same}
-use borrow.Author.Rules.{rules}
 use Rattle.scan.proofs.same.Given as goal
 
 abbrev pub invariant-loop-i : goal.invariant-loop-i

@@ -1,8 +1,4 @@
-use mathlib.Core.Path.{◌≡◌, refl}
-use Prim.Native.Nat.{◌-◌}
-use lib.ListN.{length}
-use Rattle.scan.specs.Lists.{end_while}
-use Rattle.scan.specs.Words.{not_gap}
+use mathlib.Core.Path.{refl}
 use Rattle.scan.proofs.ListLaws.{scan_end}
 use Rattle.scan.proofs.WordLaws.{word_stops, word_on}
 use borrow.Author.Rules.{rules}

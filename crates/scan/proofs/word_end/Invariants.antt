@@ -1,11 +1,8 @@
-use mathlib.Core.Path.{◌≡◌, refl}
+use mathlib.Core.Path.{◌≡◌}
 use Prim.Native.Nat.{◌-◌}
 use lib.ListN.{length}
 use Rattle.scan.specs.Lists.{end_while}
 use Rattle.scan.specs.Words.{not_gap}
-use Rattle.scan.proofs.ListLaws.{scan_end}
-use Rattle.scan.proofs.WordLaws.{word_stops, word_on}
-use borrow.Author.Rules.{rules}
 use Rattle.scan.proofs.word_end.Given as goal
 
 abbrev pub invariant-loop-i : goal.invariant-loop-i

@@ -1,7 +1,4 @@
-use mathlib.Core.Path.{◌≡◌, refl}
-use Prim.Native.Nat.{◌-◌, ◌≤◌}
-use lib.ListN.{length, drop}
-use Rattle.text.specs.White.{after_token}
+use mathlib.Core.Path.{refl}
 use Rattle.text.proofs.PlaceLaws.{visible_on, space_ends, white_ends, ink_on, ink_inside, ink_fits, token_ended}
 use borrow.Author.Rules.{rules}
 use Rattle.text.proofs.token_end.Goals as goal

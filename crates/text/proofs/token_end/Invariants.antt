@@ -1,9 +1,7 @@
-use mathlib.Core.Path.{◌≡◌, refl}
+use mathlib.Core.Path.{◌≡◌}
 use Prim.Native.Nat.{◌-◌, ◌≤◌}
 use lib.ListN.{length, drop}
 use Rattle.text.specs.White.{after_token}
-use Rattle.text.proofs.PlaceLaws.{visible_on, space_ends, white_ends, ink_on, ink_inside, ink_fits, token_ended}
-use borrow.Author.Rules.{rules}
 use Rattle.text.proofs.token_end.Given as goal
 
 abbrev pub invariant-loop-end : goal.invariant-loop-end

@@ -1,5 +1,4 @@
 use Rattle.text.proofs.TrimLaws.{trim_is}
-use borrow.Author.Rules.{rules}
 use Rattle.text.proofs.trim.Goals as goal
 
 pub returns : goal.returns

@@ -1,7 +1,3 @@
-use mathlib.Core.Path.{◌≡◌}
-use Prim.Native.Nat.{◌-◌, ◌≤◌}
-use lib.ListN.{length, drop}
-use Rattle.text.specs.White.{trim_start}
 use Rattle.text.proofs.PlaceLaws.{white_inside, white_fits, space_passed, visible_kept, nothing_kept, white_kept, white_passed}
 use borrow.Author.Rules.{rules}
 use Rattle.text.proofs.trim_start.Goals as goal

@@ -2,8 +2,6 @@ use mathlib.Core.Path.{◌≡◌}
 use Prim.Native.Nat.{◌-◌, ◌≤◌}
 use lib.ListN.{length, drop}
 use Rattle.text.specs.White.{trim_start}
-use Rattle.text.proofs.PlaceLaws.{white_inside, white_fits, space_passed, visible_kept, nothing_kept, white_kept, white_passed}
-use borrow.Author.Rules.{rules}
 use Rattle.text.proofs.trim_start.Given as goal
 
 abbrev pub invariant-loop-i : goal.invariant-loop-i

@@ -1,7 +1,3 @@
-use mathlib.Core.Path.{◌≡◌}
-use Prim.Native.Nat.{◌≤◌, ◌-◌}
-use lib.ListN.{length}
-use Rattle.timestamp.specs.Dates.{is_dashed, first_from, first_place}
 use Rattle.timestamp.proofs.Places.{all_places, no_place, at_place, next_place}
 use borrow.Author.Rules.{rules}
 use Rattle.timestamp.proofs.dashed_place.Goals as goal

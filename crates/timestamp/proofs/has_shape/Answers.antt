@@ -1,7 +1,3 @@
-use mathlib.Core.Path.{◌≡◌}
-use Prim.Native.Nat.{◌≤◌, ◌-◌}
-use lib.ListN.{length, drop}
-use Rattle.timestamp.specs.Dates.{has_shape}
 use Rattle.timestamp.proofs.Shapes.{shape_end, shape_short, shape_other, shape_next}
 use borrow.Author.Rules.{rules}
 use Rattle.timestamp.proofs.has_shape.Goals as goal

@@ -1,7 +1,3 @@
-use mathlib.Core.Path.{◌≡◌}
-use Prim.Native.Nat.{◌-◌}
-use lib.ListN.{length, take}
-use Rattle.utf8.specs.Utf8.{is_one, all}
 use Rattle.utf8.proofs.ReadableLaws.{seen_none, seen_next, seen_all}
 use borrow.Author.Rules.{rules}
 use Rattle.utf8.proofs.ascii_bytewise.Goals as goal

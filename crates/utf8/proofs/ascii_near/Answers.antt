@@ -1,7 +1,3 @@
-use mathlib.Core.Path.{◌≡◌}
-use Prim.Native.Nat.{◌-◌, ◌≤◌}
-use lib.ListN.{take, drop}
-use Rattle.utf8.specs.Utf8.{is_one, all}
 use Rattle.utf8.proofs.ReadableLaws.{seen_none, near_next, near_all}
 use borrow.Author.Rules.{rules}
 use Rattle.utf8.proofs.ascii_near.Goals as goal

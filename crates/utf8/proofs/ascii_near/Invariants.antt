@@ -2,8 +2,6 @@ use mathlib.Core.Path.{◌≡◌}
 use Prim.Native.Nat.{◌-◌, ◌≤◌}
 use lib.ListN.{take, drop}
 use Rattle.utf8.specs.Utf8.{is_one, all}
-use Rattle.utf8.proofs.ReadableLaws.{seen_none, near_next, near_all}
-use borrow.Author.Rules.{rules}
 use Rattle.utf8.proofs.ascii_near.Given as goal
 
 abbrev pub invariant-loop-k : goal.invariant-loop-k

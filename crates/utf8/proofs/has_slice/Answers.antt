@@ -1,4 +1,3 @@
-use borrow.Author.Rules.{rules}
 use Rattle.utf8.proofs.has_slice.Goals as goal
 
 pub returns : goal.returns

@@ -1,8 +1,3 @@
-use mathlib.Core.Path.{◌≡◌}
-use mathlib.Core.Bool.{true}
-use Prim.Native.Nat.{◌-◌}
-use lib.ListN.{length, take}
-use Rattle.utf8.specs.Utf8.{is_one, all}
 use Rattle.utf8.proofs.ReadableLaws.{seen_none, ascii_bad, ascii_more, ascii_last}
 use borrow.Author.Rules.{rules}
 use Rattle.utf8.proofs.is_ascii.Goals as goal

@@ -3,8 +3,6 @@ use mathlib.Core.Bool.{true}
 use Prim.Native.Nat.{◌-◌}
 use lib.ListN.{length, take}
 use Rattle.utf8.specs.Utf8.{is_one, all}
-use Rattle.utf8.proofs.ReadableLaws.{seen_none, ascii_bad, ascii_more, ascii_last}
-use borrow.Author.Rules.{rules}
 use Rattle.utf8.proofs.is_ascii.Given as goal
 
 abbrev pub invariant-loop-i : goal.invariant-loop-i

@@ -1,6 +1,3 @@
-use mathlib.Core.Path.{◌≡◌}
-use lib.ListN.{length}
-use Rattle.utf8.specs.Utf8.{readable}
 use Rattle.utf8.proofs.CharLaws.{char_within}
 use Rattle.utf8.proofs.ReadableLaws.{readable_end, readable_bad, readable_next, readable_ascii}
 use borrow.Author.Rules.{rules}

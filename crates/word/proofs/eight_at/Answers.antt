@@ -1,7 +1,6 @@
 -- `word::eight_at` meets its contract. Assumes nothing.
 use native.Mathlib.Omega.{arith}
 use Rattle.word.proofs.At.{added}
-use borrow.Author.Rules.{rules}
 use Rattle.word.proofs.eight_at.Goals as goal
 
 pub returns : goal.returns

@@ -1,9 +1,7 @@
 -- `word::few_at` meets its contract. Assumes nothing.
 use mathlib.Core.Path.{◌≡◌}
-use Prim.Native.Nat.{◌-◌, ◌≤◌}
+use Prim.Native.Nat.{◌-◌}
 use native.Mathlib.Omega.{arith}
-use lib.ListN.{length, drop}
-use Rattle.word.specs.Word.{number}
 use Rattle.word.proofs.At.{few_start, few_more, few_fits}
 use borrow.Author.Rules.{rules}
 use Rattle.word.proofs.few_at.Goals as goal

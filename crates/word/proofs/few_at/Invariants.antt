@@ -1,11 +1,8 @@
 -- `word::few_at` meets its contract. Assumes nothing.
 use mathlib.Core.Path.{◌≡◌}
-use Prim.Native.Nat.{◌-◌, ◌≤◌}
-use native.Mathlib.Omega.{arith}
+use Prim.Native.Nat.{◌≤◌}
 use lib.ListN.{length, drop}
 use Rattle.word.specs.Word.{number}
-use Rattle.word.proofs.At.{few_start, few_more, few_fits}
-use borrow.Author.Rules.{rules}
 use Rattle.word.proofs.few_at.Given as goal
 
 abbrev pub invariant-loop-i : goal.invariant-loop-i

@@ -1,7 +1,6 @@
 -- `word::word_at` meets its contract. Assumes nothing.
 use native.Mathlib.Omega.{arith}
 use Rattle.word.proofs.At.{past, few, late}
-use borrow.Author.Rules.{rules}
 use Rattle.word.proofs.word_at.Goals as goal
 
 pub returns-then-s-at : goal.returns-then-s-at
