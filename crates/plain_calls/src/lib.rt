@@ -1,11 +1,13 @@
 // The plain reader (01, Reader) as a program, for tests. What a line says it takes from `text_dump_line`.
+#![tactic(auto)]
+
 use columns::Columns;
 use elem::{Element, OptAsn};
 use network::{Asn, IpAddr, NetworkPrefix};
 use path_text::AsnsPut;
 use text_dump_line::{Line, PrefixText, RouteEntry};
 
-#[derive(Drop)]
+#[derive(Clone, Copy)]
 pub enum Prefix {
     Nothing,
     Invalid,
@@ -13,7 +15,7 @@ pub enum Prefix {
 }
 
 // What the plain reader keeps: the part's lines left, which are those from the line `taken` on, and a prefix.
-#[derive(Drop)]
+#[derive(Clone, Copy)]
 pub struct Plain {
     pub lines: usize,
     pub taken: usize,
@@ -21,7 +23,7 @@ pub struct Plain {
 }
 
 // What it is fed besides the lines: what the header says, and the timestamp.
-#[derive(Drop)]
+#[derive(Clone, Copy)]
 pub struct Given {
     pub columns: Columns,
     pub peer_ip: IpAddr,
@@ -30,7 +32,7 @@ pub struct Given {
 }
 
 // 6 and 7 are the last two.
-#[derive(Drop)]
+#[derive(Clone, Copy)]
 pub enum Answer {
     Element(Element),
     End,
@@ -38,7 +40,7 @@ pub enum Answer {
     TooFewPlaces,
 }
 
-#[derive(Drop)]
+#[derive(Clone, Copy)]
 pub struct Step {
     pub answer: Answer,
     pub plain: Plain,
@@ -131,7 +133,7 @@ fn element(
 }
 
 // What the lines left come to: a route under a valid prefix, with its line's number.
-#[derive(Drop)]
+#[derive(Clone, Copy)]
 enum Reached {
     Route(NetworkPrefix, RouteEntry, usize),
     End(Prefix),
@@ -140,7 +142,7 @@ enum Reached {
 
 // The n-th line of a part, from 0 on.
 fn line_at<'a, 'b>(part: &'a [u8], ends: &'b [usize], n: usize) -> &'a [u8] {
-    let behind = std::num::wrapping_add_usize(n, 1);
+    let behind = n.wrapping_add(1);
     cases::part(part, end_of(ends, n), end_of(ends, behind))
 }
 
@@ -197,7 +199,7 @@ fn behind(answer: Answer, before: Plain, n: usize, prefix: NetworkPrefix) -> Pla
     };
     Plain {
         lines: before.lines,
-        taken: std::num::wrapping_add_usize(n, 1),
+        taken: n.wrapping_add(1),
         prefix: Prefix::Valid(prefix),
     }
 }
