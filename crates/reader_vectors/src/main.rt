@@ -1,7 +1,10 @@
 // Reads the listings of data/cases.txt, by opening and by next until it says End or refuses, and prints a line for each group.
+#![tactic(auto)]
+
 use cases::Tally;
 use elem::Element;
 use psv::ElementPut;
+use std::io;
 use text_dump::{Next, Opened, State};
 
 // A byte as it stands in a case: `_` for a space, `|` for a line feed, any other for itself.
@@ -49,7 +52,7 @@ fn float(bits: u64) -> f64 {
 
 // An element as its PSV line, and a tab.
 fn put_element(out: &mut [u8], at: usize, e: Element, asns: &[u32]) -> usize {
-    let mut line = io::buffer();
+    let mut line = [0; 4096];
     let ElementPut::Wrote(n) = psv::to_psv(e, asns, &mut line) else {
         return cases::put(out, at, b"no line");
     };
@@ -121,7 +124,14 @@ fn answer(timestamp: f64, text: &[u8], out: &mut [u8]) -> usize {
 }
 
 // One case, with the buffers for its listing and for the answer.
-fn one(t: Tally, list: &[u8], at: usize, text: &mut [u8], out: &mut [u8]) -> Tally {
+fn one(
+    rt: &impl Print,
+    t: Tally,
+    list: &[u8],
+    at: usize,
+    text: &mut [u8],
+    out: &mut [u8],
+) -> io::Result<Tally> {
     let case = cases::line(list, at);
     let n = listing(cases::field(case, 2), text);
     let k = answer(
@@ -129,27 +139,27 @@ fn one(t: Tally, list: &[u8], at: usize, text: &mut [u8], out: &mut [u8]) -> Tal
         cases::part(text, 0, n),
         out,
     );
-    cases::count(t, list, at, cases::part(out, 0, k))
+    cases::count(rt, t, list, at, cases::part(out, 0, k))
 }
 
-fn turn(t: Tally, list: &[u8], at: usize) -> Tally {
-    let mut text = io::buffer();
-    let mut out = io::buffer();
-    one(t, list, at, &mut text, &mut out)
+fn turn(rt: &impl Print, t: Tally, list: &[u8], at: usize) -> io::Result<Tally> {
+    let mut text = [0; 4096];
+    let mut out = [0; 4096];
+    one(rt, t, list, at, &mut text, &mut out)
 }
 
-fn run(list: &[u8]) {
+fn run(rt: &impl Print, list: &[u8]) -> io::Result<()> {
     let mut t = cases::start();
     let mut at = 0;
     while at < list.len() {
-        t = turn(t, list, at);
+        t = turn(rt, t, list, at)?;
         at = cases::after(list, at);
     }
-    cases::report(t, list);
+    cases::report(rt, t, list)
 }
 
-fn main() {
-    let mut list: [u8; 2097152] = [0; 2097152];
-    let n = cases::load(&mut list);
-    run(&list[..n]);
+fn main(rt: HostRuntime) -> io::Result<()> {
+    let mut list = cases::list_buffer();
+    let n = cases::load(&rt, &mut list)?;
+    run(&rt, &list[..n])
 }
