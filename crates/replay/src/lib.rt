@@ -1,16 +1,18 @@
 // The reader and the plain reader side by side, for tests: each call is made on both, and what they leave is compared.
+#![tactic(auto)]
+
 use cases::Tally;
 use columns::Columns;
 use elem::Element;
-use libc::STDOUT_FILENO;
 use plain_calls::{Answer, Given, Plain, Prefix};
 use psv::ElementPut;
+use std::io;
 use text_dump::{Next, Remembered, State};
 
 // A float by its bits.
 fn put_float(out: &mut [u8], at: usize, x: f64) -> usize {
     if x == x {
-        cases::put_decimal(out, at, f64::to_bits(x))
+        cases::put_decimal(out, at, x.to_bits())
     } else {
         cases::put(out, at, b"nan")
     }
@@ -63,7 +65,7 @@ fn put_state(out: &mut [u8], at: usize, s: State) -> usize {
 
 // An element by its line.
 fn put_element(out: &mut [u8], at: usize, e: Element, asns: &[u32]) -> usize {
-    let mut line = io::buffer();
+    let mut line = [0; 4096];
     let ElementPut::Wrote(n) = psv::to_psv(e, asns, &mut line) else {
         return cases::put(out, at, b"no line");
     };
@@ -109,42 +111,54 @@ fn put_next(out: &mut [u8], n: Next, asns: &[u32]) -> usize {
 }
 
 // Whether two texts are the same; where they are not, both are printed.
-fn same(got: &[u8], want: &[u8]) -> bool {
+fn same(rt: &impl Print, got: &[u8], want: &[u8]) -> io::Result<bool> {
     if scan::same(got, want) {
-        return true;
+        return Ok(true);
     }
-    io::write_all(STDOUT_FILENO, b"  is: ");
-    io::write_all(STDOUT_FILENO, got);
-    io::write_all(STDOUT_FILENO, b"\nnot: ");
-    io::write_all(STDOUT_FILENO, want);
-    io::write_all(STDOUT_FILENO, b"\n");
-    false
+    rt.write_all(b"  is: ")?;
+    rt.write_all(got)?;
+    rt.write_all(b"\nnot: ")?;
+    rt.write_all(want)?;
+    rt.write_all(b"\n")?;
+    Ok(false)
 }
 
 // Whether next gave this element, or this number.
-pub fn same_answer(got: Next, asns: &[u32], want: Next, places: &[u32]) -> bool {
-    let mut a = io::buffer();
-    let mut b = io::buffer();
+pub fn same_answer(
+    rt: &impl Print,
+    got: Next,
+    asns: &[u32],
+    want: Next,
+    places: &[u32],
+) -> io::Result<bool> {
+    let mut a = [0; 4096];
+    let mut b = [0; 4096];
     let m = put_answer(&mut a, got, asns);
     let n = put_answer(&mut b, want, places);
-    same(cases::part(&a, 0, m), cases::part(&b, 0, n))
+    same(rt, cases::part(&a, 0, m), cases::part(&b, 0, n))
 }
 
 // Whether next answered as it should, with every field and every place.
-pub fn same_next(got: Next, asns: &[u32], want: Next, places: &[u32]) -> bool {
-    let mut a = io::buffer();
-    let mut b = io::buffer();
+pub fn same_next(
+    rt: &impl Print,
+    got: Next,
+    asns: &[u32],
+    want: Next,
+    places: &[u32],
+) -> io::Result<bool> {
+    let mut a = [0; 4096];
+    let mut b = [0; 4096];
     let m = put_next(&mut a, got, asns);
     let n = put_next(&mut b, want, places);
-    same(cases::part(&a, 0, m), cases::part(&b, 0, n))
+    same(rt, cases::part(&a, 0, m), cases::part(&b, 0, n))
 }
 
-pub fn same_state(got: State, want: State) -> bool {
-    let mut a = io::buffer();
-    let mut b = io::buffer();
+pub fn same_state(rt: &impl Print, got: State, want: State) -> io::Result<bool> {
+    let mut a = [0; 4096];
+    let mut b = [0; 4096];
     let m = put_state(&mut a, 0, got);
     let n = put_state(&mut b, 0, want);
-    same(cases::part(&a, 0, m), cases::part(&b, 0, n))
+    same(rt, cases::part(&a, 0, m), cases::part(&b, 0, n))
 }
 
 // The state that the plain reader's asks for, where its part begins at `base` in the text that next is lent.
@@ -165,7 +179,7 @@ fn state_of(given: Given, plain: Plain, ends: &[usize], base: usize) -> State {
             Prefix::Invalid => Remembered::Invalid,
             Prefix::Valid(p) => Remembered::Valid(p),
         },
-        position: std::num::wrapping_add_usize(base, taken),
+        position: base.wrapping_add(taken),
     }
 }
 
@@ -193,21 +207,21 @@ pub fn next_with(state: State, part: &[u8], k: usize, asns: &mut [u32]) -> Next 
 }
 
 // A case more in a group, which was right or not.
-pub fn count(t: Tally, right: bool) -> Tally {
+pub fn count(rt: &impl Print, t: Tally, right: bool) -> io::Result<Tally> {
     let mut t = t;
-    t.cases = std::num::wrapping_add_u64(t.cases, 1);
+    t.cases = t.cases.wrapping_add(1);
     if right {
-        return t;
+        return Ok(t);
     }
-    t.mismatches = std::num::wrapping_add_u64(t.mismatches, 1);
-    io::write_all(STDOUT_FILENO, b"mismatch: case ");
-    io::print_decimal(STDOUT_FILENO, t.cases);
-    io::write_all(STDOUT_FILENO, b" of the group\n");
-    t
+    t.mismatches = t.mismatches.wrapping_add(1);
+    rt.write_all(b"mismatch: case ")?;
+    cases::print_decimal(rt, t.cases)?;
+    rt.write_all(b" of the group\n")?;
+    Ok(t)
 }
 
 // Both readers behind a call: the number that next answered, and whether the call did what it had to.
-#[derive(Drop)]
+#[derive(Clone, Copy)]
 pub struct Both {
     pub state: State,
     pub plain: Plain,
@@ -217,6 +231,7 @@ pub struct Both {
 
 // Next with k places, on a part whose body begins at `base`.
 pub fn next(
+    rt: &impl Print,
     b: Both,
     given: Given,
     part: &[u8],
@@ -225,7 +240,7 @@ pub fn next(
     k: usize,
     asns: &mut [u32],
     places: &mut [u32],
-) -> Both {
+) -> io::Result<Both> {
     let state = b.state;
     let before = b.plain;
     let body = cases::part(part, base, part.len());
@@ -234,36 +249,45 @@ pub fn next(
     let plain = step.plain;
     let got = next_with(state, part, k, asns);
     let want = next_of(answer, state_of(given, plain, ends, base));
-    Both {
+    let right = same_next(rt, got, asns, want, places)?;
+    Ok(Both {
         state: state_in(got),
         plain,
         said: number(got),
-        right: same_next(got, asns, want, places),
-    }
+        right,
+    })
 }
 
 // Opening, which gave this state, with a body that begins at `base`; or a state put together by hand.
 pub fn begin(
+    rt: &impl Print,
     state: State,
     given: Given,
     part: &[u8],
     base: usize,
     prefix: Prefix,
     ends: &mut [usize],
-) -> Both {
+) -> io::Result<Both> {
     let plain = plain_calls::turned(cases::part(part, base, part.len()), ends, prefix);
-    Both {
+    let right = same_state(rt, state, state_of(given, plain, ends, base))?;
+    Ok(Both {
         state,
         plain,
         said: 0,
-        right: same_state(state, state_of(given, plain, ends, base)),
-    }
+        right,
+    })
 }
 
 // Turn to a part.
-pub fn turn(b: Both, given: Given, part: &[u8], ends: &mut [usize]) -> Both {
+pub fn turn(
+    rt: &impl Print,
+    b: Both,
+    given: Given,
+    part: &[u8],
+    ends: &mut [usize],
+) -> io::Result<Both> {
     let state = b.state;
     let before = b.plain;
     let prefix = before.prefix;
-    begin(state.turn(), given, part, 0, prefix, ends)
+    begin(rt, state.turn(), given, part, 0, prefix, ends)
 }
