@@ -1,13 +1,15 @@
 // Replays lists of calls on listings that are cut into parts, on the reader and on the plain reader side by side: after each call the
 // answer, every field of the state and every place of the AS list are compared. Where the listing is cut at line feeds, the elements
 // are compared with those of the joined body too. Prints a line for each group.
+#![tactic(auto)]
+
 use cases::Tally;
 use columns::Columns;
 use cuts::Cut;
-use libc::STDOUT_FILENO;
 use network::{Asn, IpAddr};
 use plain_calls::{Given, Prefix};
 use replay::Both;
+use std::io;
 use text_dump::{Next, Opened, State};
 
 // What the header of the listings says (01, One listing), and a timestamp.
@@ -27,31 +29,27 @@ fn given() -> Given {
 }
 
 // A call more; where it was wrong, the cut is printed.
-fn counted(t: Tally, right: bool, part: usize, cut: Cut) -> Tally {
+fn counted(rt: &impl Print, t: Tally, right: bool, part: usize, cut: Cut) -> io::Result<Tally> {
     if !right {
-        io::write_all(STDOUT_FILENO, b"in part ");
-        io::print_decimal(STDOUT_FILENO, part as u64);
-        io::write_all(STDOUT_FILENO, b", cut at");
-        cuts::print(cut);
+        rt.write_all(b"in part ")?;
+        cases::print_decimal(rt, part as u64)?;
+        rt.write_all(b", cut at")?;
+        cuts::print(rt, cut)?;
     }
-    replay::count(t, right)
+    replay::count(rt, t, right)
 }
 
 // A list of calls at work: both readers, and the part at hand.
-#[derive(Drop)]
+#[derive(Clone, Copy)]
 struct Run {
     both: Both,
     part: usize,
     tally: Tally,
 }
 
-fn called(r: Run, both: Both, part: usize, cut: Cut) -> Run {
-    let tally = r.tally;
-    Run {
-        both,
-        part,
-        tally: counted(tally, both.right, part, cut),
-    }
+fn called(rt: &impl Print, r: Run, both: Both, part: usize, cut: Cut) -> io::Result<Run> {
+    let tally = counted(rt, r.tally, both.right, part, cut)?;
+    Ok(Run { both, part, tally })
 }
 
 // Which call comes next: next with so many places, or 17 for a turn. Without a draw each part is read to its end.
@@ -74,6 +72,7 @@ fn call(said: usize, x: u64) -> usize {
 
 // One call; a turn past the last part is none.
 fn step(
+    rt: &impl Print,
     r: Run,
     text: &[u8],
     cut: Cut,
@@ -81,25 +80,32 @@ fn step(
     ends: &mut [usize],
     asns: &mut [u32],
     places: &mut [u32],
-) -> Run {
+) -> io::Result<Run> {
     let both = r.both;
     let i = r.part;
     if k < 17 {
         let here = cuts::part(text, cut, i);
         let base = cuts::body_at(cut, i);
-        let now = replay::next(both, given(), here, base, ends, k, asns, places);
-        return called(r, now, i, cut);
+        let now = replay::next(rt, both, given(), here, base, ends, k, asns, places)?;
+        return called(rt, r, now, i, cut);
     }
-    let next = std::num::wrapping_add_usize(i, 1);
+    let next = i.wrapping_add(1);
     if cut.parts <= next {
-        return r;
+        return Ok(r);
     }
-    let now = replay::turn(both, given(), cuts::part(text, cut, next), ends);
-    called(r, now, next, cut)
+    let now = replay::turn(rt, both, given(), cuts::part(text, cut, next), ends)?;
+    called(rt, r, now, next, cut)
 }
 
 // As many calls as read the longest listing here.
-fn run_on(start: Run, text: &[u8], cut: Cut, seed: u64, ends: &mut [usize]) -> Run {
+fn run_on(
+    rt: &impl Print,
+    start: Run,
+    text: &[u8],
+    cut: Cut,
+    seed: u64,
+    ends: &mut [usize],
+) -> io::Result<Run> {
     let mut asns = replay::places();
     let mut places = replay::places();
     let mut r = start;
@@ -110,6 +116,7 @@ fn run_on(start: Run, text: &[u8], cut: Cut, seed: u64, ends: &mut [usize]) -> R
         x = cuts::drawn(x);
         let both = r.both;
         r = step(
+            rt,
             r,
             text,
             cut,
@@ -117,48 +124,50 @@ fn run_on(start: Run, text: &[u8], cut: Cut, seed: u64, ends: &mut [usize]) -> R
             ends,
             &mut asns,
             &mut places,
-        );
+        )?;
     }
-    r
+    Ok(r)
 }
 
 // Opens the first part, and reads each part to its end, or makes the calls that are drawn from the seed.
-fn play(t: Tally, text: &[u8], cut: Cut, seed: u64) -> Tally {
+fn play(rt: &impl Print, t: Tally, text: &[u8], cut: Cut, seed: u64) -> io::Result<Tally> {
     let mut ends = [0usize; 512];
     let first = cuts::part(text, cut, 0);
     let Opened::Table(state) = State::open(first, 1709251200.0) else {
-        return counted(t, false, 0, cut);
+        return counted(rt, t, false, 0, cut);
     };
     let both = replay::begin(
+        rt,
         state,
         given(),
         first,
         cut.header,
         Prefix::Nothing,
         &mut ends,
-    );
+    )?;
+    let tally = counted(rt, t, both.right, 0, cut)?;
     let start = Run {
         both,
         part: 0,
-        tally: counted(t, both.right, 0, cut),
+        tally,
     };
-    let r = run_on(start, text, cut, seed, &mut ends);
-    r.tally
+    let r = run_on(rt, start, text, cut, seed, &mut ends)?;
+    Ok(r.tally)
 }
 
 // Opens a header that ends before its column line does: 2.
-fn open_cut_header(t: Tally, text: &[u8], cut: Cut) -> Tally {
+fn open_cut_header(rt: &impl Print, t: Tally, text: &[u8], cut: Cut) -> io::Result<Tally> {
     let right = match State::open(cuts::part(text, cut, 0), 1709251200.0) {
         Opened::Table(_) => false,
         Opened::NoTimestamp => false,
         Opened::Unreadable(_) => false,
         Opened::NoColumns => true,
     };
-    counted(t, right, 0, cut)
+    counted(rt, t, right, 0, cut)
 }
 
 // A reading in parts, and one of the joined body beside it.
-#[derive(Drop)]
+#[derive(Clone, Copy)]
 struct Pair {
     state: State,
     joined: State,
@@ -168,57 +177,64 @@ struct Pair {
 }
 
 // What next answered in parts is what it answers in the joined body.
-fn same_in_joined(p: Pair, text: &[u8], cut: Cut, got: Next, asns: &[u32]) -> Pair {
+fn same_in_joined(
+    rt: &impl Print,
+    p: Pair,
+    text: &[u8],
+    cut: Cut,
+    got: Next,
+    asns: &[u32],
+) -> io::Result<Pair> {
     let mut places = replay::places();
     let joined = p.joined;
-    let tally = p.tally;
     let want = joined.next(text, &mut places);
-    let right = replay::same_answer(got, asns, want, &places);
-    Pair {
+    let right = replay::same_answer(rt, got, asns, want, &places)?;
+    let tally = counted(rt, p.tally, right, p.part, cut)?;
+    Ok(Pair {
         state: replay::state_in(got),
         joined: replay::state_in(want),
         part: p.part,
         going: replay::number(got) == 0,
-        tally: counted(tally, right, p.part, cut),
-    }
+        tally,
+    })
 }
 
 // One next; at the end of any part but the last comes a turn.
-fn pair_step(p: Pair, text: &[u8], cut: Cut) -> Pair {
+fn pair_step(rt: &impl Print, p: Pair, text: &[u8], cut: Cut) -> io::Result<Pair> {
     let mut asns = replay::places();
     let state = p.state;
     let i = p.part;
     let got = state.next(cuts::part(text, cut, i), &mut asns);
-    let next = std::num::wrapping_add_usize(i, 1);
+    let next = i.wrapping_add(1);
     if (replay::number(got) == 255) & (next < cut.parts) {
         let ended = replay::state_in(got);
         let mut p = p;
         p.state = ended.turn();
         p.part = next;
-        return p;
+        return Ok(p);
     }
-    same_in_joined(p, text, cut, got, &asns)
+    same_in_joined(rt, p, text, cut, got, &asns)
 }
 
-fn pair_on(start: Pair, text: &[u8], cut: Cut) -> Pair {
+fn pair_on(rt: &impl Print, start: Pair, text: &[u8], cut: Cut) -> io::Result<Pair> {
     let mut p = start;
     let mut left: usize = 200;
     while left > 0 {
         left -= 1;
         if p.going {
-            p = pair_step(p, text, cut);
+            p = pair_step(rt, p, text, cut)?;
         }
     }
-    p
+    Ok(p)
 }
 
 // Reads the parts and the joined body: the same elements, and End.
-fn play_joined(t: Tally, text: &[u8], cut: Cut) -> Tally {
+fn play_joined(rt: &impl Print, t: Tally, text: &[u8], cut: Cut) -> io::Result<Tally> {
     let Opened::Table(state) = State::open(cuts::part(text, cut, 0), 1709251200.0) else {
-        return counted(t, false, 0, cut);
+        return counted(rt, t, false, 0, cut);
     };
     let Opened::Table(joined) = State::open(text, 1709251200.0) else {
-        return counted(t, false, 0, cut);
+        return counted(rt, t, false, 0, cut);
     };
     let start = Pair {
         state,
@@ -227,67 +243,73 @@ fn play_joined(t: Tally, text: &[u8], cut: Cut) -> Tally {
         going: true,
         tally: t,
     };
-    let p = pair_on(start, text, cut);
-    p.tally
+    let p = pair_on(rt, start, text, cut)?;
+    Ok(p.tally)
 }
 
 // Cut in two at every byte, the header's too.
-fn every_byte(text: &[u8], header: usize) -> Tally {
+fn every_byte(rt: &impl Print, text: &[u8], header: usize) -> io::Result<Tally> {
     let mut t = cases::start();
     let mut at = 0;
     while at < text.len() {
         let cut = cuts::in_two(text, header, at);
         at += 1;
         if at < header {
-            t = open_cut_header(t, text, cut);
+            t = open_cut_header(rt, t, text, cut)?;
         } else {
-            t = play(t, text, cut, 0);
+            t = play(rt, t, text, cut, 0)?;
         }
     }
-    play(t, text, cuts::in_two(text, header, at), 0)
+    play(rt, t, text, cuts::in_two(text, header, at), 0)
 }
 
 // Against the joined body, or against the plain reader.
-fn play_either(t: Tally, text: &[u8], cut: Cut, joined: bool) -> Tally {
+fn play_either(
+    rt: &impl Print,
+    t: Tally,
+    text: &[u8],
+    cut: Cut,
+    joined: bool,
+) -> io::Result<Tally> {
     if joined {
-        return play_joined(t, text, cut);
+        return play_joined(rt, t, text, cut);
     }
-    play(t, text, cut, 0)
+    play(rt, t, text, cut, 0)
 }
 
 // Cut in two at every line feed behind the header.
-fn every_line(text: &[u8], header: usize, joined: bool) -> Tally {
+fn every_line(rt: &impl Print, text: &[u8], header: usize, joined: bool) -> io::Result<Tally> {
     let mut t = cases::start();
     let mut at = header;
     while at < text.len() {
-        t = play_either(t, text, cuts::in_two(text, header, at), joined);
+        t = play_either(rt, t, text, cuts::in_two(text, header, at), joined)?;
         at = cases::after(text, at);
     }
-    play_either(t, text, cuts::in_two(text, header, at), joined)
+    play_either(rt, t, text, cuts::in_two(text, header, at), joined)
 }
 
 // Cut in two to eight parts by chance, 100 times, and read to the end.
-fn some_parts(text: &[u8], header: usize, joined: bool) -> Tally {
+fn some_parts(rt: &impl Print, text: &[u8], header: usize, joined: bool) -> io::Result<Tally> {
     let mut t = cases::start();
     let mut seed = 1;
     while seed <= 100 {
         let cut = cuts::by_chance(text, header, seed, joined);
-        t = play_either(t, text, cut, joined);
+        t = play_either(rt, t, text, cut, joined)?;
         seed += 1;
     }
-    t
+    Ok(t)
 }
 
 // Cut in two to eight parts by chance, at line feeds every other time, with calls that are drawn, 100 times.
-fn some_calls(text: &[u8], header: usize) -> Tally {
+fn some_calls(rt: &impl Print, text: &[u8], header: usize) -> io::Result<Tally> {
     let mut t = cases::start();
     let mut seed = 1;
     while seed <= 100 {
         let cut = cuts::by_chance(text, header, seed, seed % 2 == 0);
-        t = play(t, text, cut, seed);
+        t = play(rt, t, text, cut, seed)?;
         seed += 1;
     }
-    t
+    Ok(t)
 }
 
 // The header of each listing is its first three lines.
@@ -295,34 +317,44 @@ fn header_of(text: &[u8]) -> usize {
     scan::line_end(text, scan::line_end(text, scan::line_end(text, 0)))
 }
 
-fn listing(text: &[u8]) {
+fn listing(rt: &impl Print, text: &[u8]) -> io::Result<()> {
     let header = header_of(text);
-    cases::report(every_byte(text, header), b"listing_every_byte");
-    cases::report(every_line(text, header, true), b"listing_joined");
+    let bytes = every_byte(rt, text, header)?;
+    cases::report(rt, bytes, b"listing_every_byte")?;
+    let joined = every_line(rt, text, header, true)?;
+    cases::report(rt, joined, b"listing_joined")
 }
 
-fn table(text: &[u8]) {
+fn table(rt: &impl Print, text: &[u8]) -> io::Result<()> {
     let header = header_of(text);
-    cases::report(every_line(text, header, false), b"table_every_line");
-    cases::report(every_line(text, header, true), b"table_every_line_joined");
-    cases::report(some_parts(text, header, false), b"table_parts");
-    cases::report(some_parts(text, header, true), b"table_parts_joined");
-    cases::report(some_calls(text, header), b"table_calls");
+    let lines = every_line(rt, text, header, false)?;
+    cases::report(rt, lines, b"table_every_line")?;
+    let joined = every_line(rt, text, header, true)?;
+    cases::report(rt, joined, b"table_every_line_joined")?;
+    let parts = some_parts(rt, text, header, false)?;
+    cases::report(rt, parts, b"table_parts")?;
+    let parts_joined = some_parts(rt, text, header, true)?;
+    cases::report(rt, parts_joined, b"table_parts_joined")?;
+    let calls = some_calls(rt, text, header)?;
+    cases::report(rt, calls, b"table_calls")
 }
 
-fn unreadable(text: &[u8]) {
+fn unreadable(rt: &impl Print, text: &[u8]) -> io::Result<()> {
     let header = header_of(text);
-    cases::report(every_line(text, header, false), b"unreadable_every_line");
-    cases::report(some_parts(text, header, false), b"unreadable_parts");
-    cases::report(some_calls(text, header), b"unreadable_calls");
+    let lines = every_line(rt, text, header, false)?;
+    cases::report(rt, lines, b"unreadable_every_line")?;
+    let parts = some_parts(rt, text, header, false)?;
+    cases::report(rt, parts, b"unreadable_parts")?;
+    let calls = some_calls(rt, text, header)?;
+    cases::report(rt, calls, b"unreadable_calls")
 }
 
-fn main() {
-    let mut list = io::large_buffer();
-    let a = io::read_full(os::open_read(b"listing.txt"), &mut list);
-    listing(&list[..a]);
-    let b = io::read_full(os::open_read(b"table.txt"), &mut list);
-    table(&list[..b]);
-    let c = io::read_full(os::open_read(b"unreadable.txt"), &mut list);
-    unreadable(&list[..c]);
+fn main(rt: HostRuntime) -> io::Result<()> {
+    let mut list = [0; 65536];
+    let a = cases::read_file(&rt, "listing.txt", &mut list)?;
+    listing(&rt, &list[..a])?;
+    let b = cases::read_file(&rt, "table.txt", &mut list)?;
+    table(&rt, &list[..b])?;
+    let c = cases::read_file(&rt, "unreadable.txt", &mut list)?;
+    unreadable(&rt, &list[..c])
 }
