@@ -1,10 +1,13 @@
 // Hands next states that are spoilt in each way (01, Where a call says no: 5), on parts that would otherwise end in an element, End, 6 or
 // 7: the answer is 5, and the state and every AS place are as they were. States at the edge of each way are held to the plain reader.
 // Prints a line for each group.
+#![tactic(auto)]
+
 use cases::Tally;
 use columns::Columns;
 use network::{Asn, IpAddr, NetworkPrefix};
 use plain_calls::{Given, Prefix};
+use std::io;
 use text_dump::{Next, Remembered, State};
 
 fn columns(
@@ -106,8 +109,8 @@ fn sound_prefix(i: usize) -> NetworkPrefix {
 // Past a part of n bytes.
 fn spoilt_position(i: usize, n: usize) -> usize {
     match i {
-        0 => std::num::wrapping_add_usize(n, 1),
-        1 => std::num::wrapping_add_usize(n, 9223372036854775808),
+        0 => n.wrapping_add(1),
+        1 => n.wrapping_add(9223372036854775808),
         _ => 18446744073709551615,
     }
 }
@@ -154,35 +157,37 @@ fn room(i: usize) -> usize {
 }
 
 // Next says 5, and all is as it was.
-fn next_refuses(t: Tally, s: State, part: &[u8], k: usize) -> Tally {
+fn next_refuses(rt: &impl Print, t: Tally, s: State, part: &[u8], k: usize) -> io::Result<Tally> {
     let mut asns = replay::places();
     let got = replay::next_with(s, part, k, &mut asns);
-    let right = replay::same_next(got, &asns, Next::Spoilt(s), &replay::places());
-    replay::count(t, right)
+    let right = replay::same_next(rt, got, &asns, Next::Spoilt(s), &replay::places())?;
+    replay::count(rt, t, right)
 }
 
 // Turn never refuses: the position is 0, and the rest as it was.
-fn turn_turns(t: Tally, s: State) -> Tally {
+fn turn_turns(rt: &impl Print, t: Tally, s: State) -> io::Result<Tally> {
     let mut want = s;
     want.position = 0;
-    replay::count(t, replay::same_state(s.turn(), want))
+    let right = replay::same_state(rt, s.turn(), want)?;
+    replay::count(rt, t, right)
 }
 
 // The i-th case of a kind: each way has eight, a call on each part, without places and with enough.
-fn refused(t: Tally, text: &[u8], kind: usize, i: usize) -> Tally {
+fn refused(rt: &impl Print, t: Tally, text: &[u8], kind: usize, i: usize) -> io::Result<Tally> {
     let here = part(text, i);
     let s = spoilt(kind, i / 8, here.len());
-    turn_turns(next_refuses(t, s, here, room(i / 4)), s)
+    let next = next_refuses(rt, t, s, here, room(i / 4))?;
+    turn_turns(rt, next, s)
 }
 
-fn all_refused(text: &[u8], kind: usize, count: usize) -> Tally {
+fn all_refused(rt: &impl Print, text: &[u8], kind: usize, count: usize) -> io::Result<Tally> {
     let mut t = cases::start();
     let mut i = 0;
     while i < count {
-        t = refused(t, text, kind, i);
+        t = refused(rt, t, text, kind, i)?;
         i += 1;
     }
-    t
+    Ok(t)
 }
 
 fn given(columns: Columns, timestamp: f64) -> Given {
@@ -196,66 +201,94 @@ fn given(columns: Columns, timestamp: f64) -> Given {
 
 // A sound state on a part, with the position anywhere in it: as the plain reader that is fed what lies behind.
 fn next_reads(
+    rt: &impl Print,
     t: Tally,
     g: Given,
     p: NetworkPrefix,
     part: &[u8],
     position: usize,
     k: usize,
-) -> Tally {
+) -> io::Result<Tally> {
     let mut ends = [0usize; 8];
     let mut asns = replay::places();
     let mut places = replay::places();
     let columns = g.columns;
     let timestamp = g.timestamp;
     let s = state(columns, timestamp, p, position);
-    let both = replay::begin(s, g, part, position, Prefix::Valid(p), &mut ends);
-    let now = replay::next(both, g, part, position, &ends, k, &mut asns, &mut places);
-    replay::count(t, both.right & now.right)
+    let both = replay::begin(rt, s, g, part, position, Prefix::Valid(p), &mut ends)?;
+    let now = replay::next(
+        rt,
+        both,
+        g,
+        part,
+        position,
+        &ends,
+        k,
+        &mut asns,
+        &mut places,
+    )?;
+    replay::count(rt, t, both.right & now.right)
 }
 
 // The i-th case of states at an edge: the columns', the timestamp's, the prefix's.
-fn read(t: Tally, text: &[u8], i: usize) -> Tally {
+fn read(rt: &impl Print, t: Tally, text: &[u8], i: usize) -> io::Result<Tally> {
     let here = part(text, i);
     let k = room(i / 4);
     let p = sound_prefix(0);
     let c = sound_columns(0);
-    let a = next_reads(t, given(sound_columns(i / 8), 0.0), p, here, 0, k);
-    let b = next_reads(a, given(c, sound_timestamp(i / 8)), p, here, 0, k);
-    next_reads(b, given(c, 0.0), sound_prefix(i / 8), here, 0, k)
+    let a = next_reads(rt, t, given(sound_columns(i / 8), 0.0), p, here, 0, k)?;
+    let b = next_reads(rt, a, given(c, sound_timestamp(i / 8)), p, here, 0, k)?;
+    next_reads(rt, b, given(c, 0.0), sound_prefix(i / 8), here, 0, k)
 }
 
-fn all_read(text: &[u8], count: usize) -> Tally {
+fn all_read(rt: &impl Print, text: &[u8], count: usize) -> io::Result<Tally> {
     let mut t = cases::start();
     let mut i = 0;
     while i < count {
-        t = read(t, text, i);
+        t = read(rt, t, text, i)?;
         i += 1;
     }
-    t
+    Ok(t)
 }
 
 // Every position in each part, its end too.
-fn positions_read(text: &[u8], i: usize) -> Tally {
+fn positions_read(rt: &impl Print, text: &[u8], i: usize) -> io::Result<Tally> {
     let mut t = cases::start();
     let here = part(text, i);
     let g = given(sound_columns(0), 0.0);
     let mut at = 0;
     while at < here.len() {
-        t = next_reads(t, g, sound_prefix(0), here, at, 16);
+        t = next_reads(rt, t, g, sound_prefix(0), here, at, 16)?;
         at += 1;
     }
-    next_reads(t, g, sound_prefix(0), here, at, 0)
+    next_reads(rt, t, g, sound_prefix(0), here, at, 0)
 }
 
-fn main() {
+// The states that are refused, on the text.
+fn all_spoilt(rt: &impl Print, text: &[u8]) -> io::Result<()> {
+    let position = all_refused(rt, text, 0, 24)?;
+    cases::report(rt, position, b"position")?;
+    let columns = all_refused(rt, text, 1, 80)?;
+    cases::report(rt, columns, b"columns")?;
+    let timestamp = all_refused(rt, text, 2, 96)?;
+    cases::report(rt, timestamp, b"timestamp")?;
+    let prefix = all_refused(rt, text, 3, 40)?;
+    cases::report(rt, prefix, b"prefix")
+}
+
+// Those that are not.
+fn all_sound(rt: &impl Print, text: &[u8]) -> io::Result<()> {
+    let edges = all_read(rt, text, 32)?;
+    cases::report(rt, edges, b"edges")?;
+    let positions = positions_read(rt, text, 2)?;
+    cases::report(rt, positions, b"positions")?;
+    let unreadable = positions_read(rt, text, 3)?;
+    cases::report(rt, unreadable, b"positions_unreadable")
+}
+
+fn main(rt: HostRuntime) -> io::Result<()> {
     let text =
         b"\xff\n*> 198.51.100.0/24  192.0.2.1                0             0 64501 64502 i\n*                   192.0.2.2                     150      0 64503 64502 i\n";
-    cases::report(all_refused(text, 0, 24), b"position");
-    cases::report(all_refused(text, 1, 80), b"columns");
-    cases::report(all_refused(text, 2, 96), b"timestamp");
-    cases::report(all_refused(text, 3, 40), b"prefix");
-    cases::report(all_read(text, 32), b"edges");
-    cases::report(positions_read(text, 2), b"positions");
-    cases::report(positions_read(text, 3), b"positions_unreadable");
+    all_spoilt(&rt, text)?;
+    all_sound(&rt, text)
 }
