@@ -3,9 +3,12 @@
 // A question is the least size of the pieces in which the input comes, the input, and what is to be printed. Both texts are in hexadecimal, in
 // parts with commas between them; behind a part, `*` and a number repeat it. Each input comes in pieces of that size, of 3 times and 64 times that
 // size, and whole; of the output, no more is lent at first than a run asks for.
+#![tactic(auto)]
+
 use cases::Tally;
 use decimal::U64Read;
 use psv_stream::{Phase, Ran};
+use std::io;
 
 // Room for a text.
 fn text_buffer() -> [u8; 262144] {
@@ -24,7 +27,7 @@ fn part_end(s: &[u8], at: usize, b: u8) -> usize {
 }
 
 fn next(i: usize) -> usize {
-    std::num::wrapping_add_usize(i, 1)
+    i.wrapping_add(1)
 }
 
 // How often a part is to be put.
@@ -47,7 +50,7 @@ fn put_times(s: &[u8], n: u64, out: &mut [u8], at: usize) -> usize {
 
 fn put_part(s: &[u8], out: &mut [u8], at: usize) -> usize {
     let star = part_end(s, 0, b'*');
-    let mut bytes = io::buffer();
+    let mut bytes = [0; 4096];
     let n = cases::hex(cases::part(s, 0, star), &mut bytes);
     put_times(
         cases::part(&bytes, 0, n),
@@ -74,7 +77,7 @@ fn expand(s: &[u8], out: &mut [u8]) -> usize {
 }
 
 // The input's bytes that have come, those of them that are there, and what is printed.
-#[derive(Drop)]
+#[derive(Clone, Copy)]
 struct Driven {
     phase: Phase,
     come: usize,
@@ -89,7 +92,7 @@ fn smaller(a: usize, b: usize) -> usize {
 }
 
 fn sum(a: usize, b: usize) -> usize {
-    std::num::wrapping_add_usize(a, b)
+    a.wrapping_add(b)
 }
 
 // The next piece comes.
@@ -225,24 +228,24 @@ fn answer(line: &[u8], out: &mut [u8]) -> usize {
     )
 }
 
-fn turn(t: Tally, list: &[u8], at: usize) -> Tally {
-    let mut out = io::buffer();
+fn turn(rt: &impl Print, t: Tally, list: &[u8], at: usize) -> io::Result<Tally> {
+    let mut out = [0; 4096];
     let n = answer(cases::line(list, at), &mut out);
-    cases::count(t, list, at, cases::part(&out, 0, n))
+    cases::count(rt, t, list, at, cases::part(&out, 0, n))
 }
 
-fn run_list(list: &[u8]) {
+fn run_list(rt: &impl Print, list: &[u8]) -> io::Result<()> {
     let mut t = cases::start();
     let mut at = 0;
     while at < list.len() {
-        t = turn(t, list, at);
+        t = turn(rt, t, list, at)?;
         at = cases::after(list, at);
     }
-    cases::report(t, list);
+    cases::report(rt, t, list)
 }
 
-fn main() {
-    let mut list: [u8; 2097152] = [0; 2097152];
-    let n = cases::load(&mut list);
-    run_list(&list[..n]);
+fn main(rt: HostRuntime) -> io::Result<()> {
+    let mut list = cases::list_buffer();
+    let n = cases::load(&rt, &mut list)?;
+    run_list(&rt, &list[..n])
 }
