@@ -1,7 +1,10 @@
 // Runs the cases of `network` and `network_display` (data/cases.txt) and prints a line for each group.
+#![tactic(auto)]
+
 use cases::Tally;
 use network::{AddressRead, NetworkPrefix, PrefixRead};
 use output::Put;
+use std::io;
 
 // The address that s says, printed.
 fn address_answer(s: &[u8], out: &mut [u8]) -> usize {
@@ -115,32 +118,40 @@ fn answer(line: &[u8], s: &[u8], room: &mut [u8], out: &mut [u8]) -> usize {
 }
 
 // One line, with the buffers for its bytes, for the list that is written to, and for the answer.
-fn one(t: Tally, list: &[u8], at: usize, s: &mut [u8], room: &mut [u8], out: &mut [u8]) -> Tally {
+fn one(
+    rt: &impl Print,
+    t: Tally,
+    list: &[u8],
+    at: usize,
+    s: &mut [u8],
+    room: &mut [u8],
+    out: &mut [u8],
+) -> io::Result<Tally> {
     let line = cases::line(list, at);
     let m = cases::hex(cases::field(line, 1), s);
     let k = answer(line, cases::part(s, 0, m), room, out);
-    cases::count(t, list, at, cases::part(out, 0, k))
+    cases::count(rt, t, list, at, cases::part(out, 0, k))
 }
 
-fn turn(t: Tally, list: &[u8], at: usize) -> Tally {
-    let mut s = io::buffer();
+fn turn(rt: &impl Print, t: Tally, list: &[u8], at: usize) -> io::Result<Tally> {
+    let mut s = [0; 4096];
     let mut room = [b'.'; 64];
-    let mut out = io::buffer();
-    one(t, list, at, &mut s, &mut room, &mut out)
+    let mut out = [0; 4096];
+    one(rt, t, list, at, &mut s, &mut room, &mut out)
 }
 
-fn run(list: &[u8]) {
+fn run(rt: &impl Print, list: &[u8]) -> io::Result<()> {
     let mut t = cases::start();
     let mut at = 0;
     while at < list.len() {
-        t = turn(t, list, at);
+        t = turn(rt, t, list, at)?;
         at = cases::after(list, at);
     }
-    cases::report(t, list);
+    cases::report(rt, t, list)
 }
 
-fn main() {
-    let mut list: [u8; 2097152] = [0; 2097152];
-    let n = cases::load(&mut list);
-    run(&list[..n]);
+fn main(rt: HostRuntime) -> io::Result<()> {
+    let mut list = cases::list_buffer();
+    let n = cases::load(&rt, &mut list)?;
+    run(&rt, &list[..n])
 }

@@ -2,12 +2,15 @@
 //
 // A question is a call's name, the element (type, bits of the timestamp, peer and its AS, prefix and its length, next hop, AS numbers
 // and their count, origin AS, origin, local preference, metric; addresses and AS numbers as bytes), and how many bytes are lent.
+#![tactic(auto)]
+
 use cases::Tally;
 use decimal::U32Read;
 use elem::{Element, OptAsn, OptOrigin, Origin};
 use network::{Asn, IpAddr, NetworkPrefix};
 use output::Put;
 use psv::ElementPut;
+use std::io;
 
 fn word(a: u8, b: u8, c: u8, d: u8) -> u32 {
     (a as u32) * 16777216 + (b as u32) * 65536 + (c as u32) * 256 + (d as u32)
@@ -169,6 +172,7 @@ fn answer(line: &[u8], asns: &[u32], bytes: &mut [u8], out: &mut [u8]) -> usize 
 
 // One case, with the buffers for its AS numbers, for what is printed and for the answer.
 fn one(
+    rt: &impl Print,
     t: Tally,
     list: &[u8],
     at: usize,
@@ -176,34 +180,34 @@ fn one(
     asns: &mut [u32; 1024],
     bytes: &mut [u8],
     out: &mut [u8],
-) -> Tally {
+) -> io::Result<Tally> {
     let line = cases::line(list, at);
     let n = cases::hex(cases::field(line, 9), s);
     words(s, asns);
     let k = answer(line, path_cases::first_numbers(asns, n / 4), bytes, out);
-    cases::count(t, list, at, cases::part(out, 0, k))
+    cases::count(rt, t, list, at, cases::part(out, 0, k))
 }
 
-fn turn(t: Tally, list: &[u8], at: usize) -> Tally {
-    let mut s = io::buffer();
+fn turn(rt: &impl Print, t: Tally, list: &[u8], at: usize) -> io::Result<Tally> {
+    let mut s = [0; 4096];
     let mut asns = [0u32; 1024];
     let mut bytes = [b'.'; 16384];
-    let mut out = io::large_buffer();
-    one(t, list, at, &mut s, &mut asns, &mut bytes, &mut out)
+    let mut out = [0; 65536];
+    one(rt, t, list, at, &mut s, &mut asns, &mut bytes, &mut out)
 }
 
-fn run(list: &[u8]) {
+fn run(rt: &impl Print, list: &[u8]) -> io::Result<()> {
     let mut t = cases::start();
     let mut at = 0;
     while at < list.len() {
-        t = turn(t, list, at);
+        t = turn(rt, t, list, at)?;
         at = cases::after(list, at);
     }
-    cases::report(t, list);
+    cases::report(rt, t, list)
 }
 
-fn main() {
-    let mut list: [u8; 2097152] = [0; 2097152];
-    let n = cases::load(&mut list);
-    run(&list[..n]);
+fn main(rt: HostRuntime) -> io::Result<()> {
+    let mut list = cases::list_buffer();
+    let n = cases::load(&rt, &mut list)?;
+    run(&rt, &list[..n])
 }

@@ -1,11 +1,14 @@
 // Runs the cases of `text_dump_header` and `text_dump_line` (data/cases.txt) and prints a line for each group. A group's name
 // begins with the call: detect, header, put_asns, route or line.
+#![tactic(auto)]
+
 use cases::Tally;
 use columns::{Columns, ColumnsRead};
 use decimal::{U32Read, U64Read};
 use elem::{OptOrigin, Origin};
 use network::{AddressRead, IpAddr, NetworkPrefix};
 use path_text::AsnsPut;
+use std::io;
 use text_dump_header::{HeaderRead, TextDumpHeader};
 use text_dump_line::{Line, PrefixText, RouteEntry, RouteRead};
 
@@ -234,33 +237,41 @@ fn answer(case: &[u8], s: &[u8], line: &[u8], out: &mut [u8]) -> usize {
 }
 
 // One case, with the buffers for its byte strings and for the answer.
-fn one(t: Tally, list: &[u8], at: usize, s: &mut [u8], line: &mut [u8], out: &mut [u8]) -> Tally {
+fn one(
+    rt: &impl Print,
+    t: Tally,
+    list: &[u8],
+    at: usize,
+    s: &mut [u8],
+    line: &mut [u8],
+    out: &mut [u8],
+) -> io::Result<Tally> {
     let case = cases::line(list, at);
     let m = cases::hex(cases::field(case, 1), s);
     let n = cases::hex(cases::field(case, 6), line);
     let k = answer(case, cases::part(s, 0, m), cases::part(line, 0, n), out);
-    cases::count(t, list, at, cases::part(out, 0, k))
+    cases::count(rt, t, list, at, cases::part(out, 0, k))
 }
 
-fn turn(t: Tally, list: &[u8], at: usize) -> Tally {
-    let mut s = io::buffer();
-    let mut line = io::buffer();
-    let mut out = io::buffer();
-    one(t, list, at, &mut s, &mut line, &mut out)
+fn turn(rt: &impl Print, t: Tally, list: &[u8], at: usize) -> io::Result<Tally> {
+    let mut s = [0; 4096];
+    let mut line = [0; 4096];
+    let mut out = [0; 4096];
+    one(rt, t, list, at, &mut s, &mut line, &mut out)
 }
 
-fn run(list: &[u8]) {
+fn run(rt: &impl Print, list: &[u8]) -> io::Result<()> {
     let mut t = cases::start();
     let mut at = 0;
     while at < list.len() {
-        t = turn(t, list, at);
+        t = turn(rt, t, list, at)?;
         at = cases::after(list, at);
     }
-    cases::report(t, list);
+    cases::report(rt, t, list)
 }
 
-fn main() {
-    let mut list: [u8; 2097152] = [0; 2097152];
-    let n = cases::load(&mut list);
-    run(&list[..n]);
+fn main(rt: HostRuntime) -> io::Result<()> {
+    let mut list = cases::list_buffer();
+    let n = cases::load(&rt, &mut list)?;
+    run(&rt, &list[..n])
 }
