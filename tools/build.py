@@ -65,7 +65,7 @@ def build(name, verb, made, behind_ci, kit):
         if build_over(name, uses, kit, made) == 0:
             return
     file = f"{ROOT}/crates/{name}/{made}"
-    for it in (file, file.removesuffix(".o")):
+    for it in (file, os.path.splitext(file)[0]):
         if os.path.isfile(it):
             os.remove(it)
     # rt run also runs the program: here on nothing, and what it prints is not looked at

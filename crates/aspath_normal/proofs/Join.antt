@@ -1,6 +1,6 @@
 -- Paths normalised before and after they are joined.
---     coalesce-join    coalescing two paths before joining them makes no difference to the joined path coalesced
---     normal-join      nor does normalising them
+--     coalesce_join    coalescing two paths before joining them makes no difference to the joined path coalesced
+--     normal_join      nor does normalising them
 use mathlib.Core.Path.{◌≡◌, refl, sym, ap, ap₂, ◌∙◌}
 use mathlib.Core.List.{List, [], ◌∷◌, ◌++◌, map, append_assoc, append-nil}
 use mathlib.Core.Bool.{Bool, true, false, cond, ◌&&◌, and-false}

@@ -1,8 +1,8 @@
 -- The normal form.
 --     normal-sorted      its sets are in rising order
---     normal-apart       no two neighbours merge: no two sequences of one kind stand next to each other, and an empty sequence stands alone
---     normal-segments    each segment is a sequence without repeats next to each other, or a set in rising order of no or several numbers, without repeats
---     normal-twice       normalising a second time changes nothing
+--     normal_apart       no two neighbours merge: no two sequences of one kind stand next to each other, and an empty sequence stands alone
+--     normal_segments    each segment is a sequence without repeats next to each other, or a set in rising order of no or several numbers, without repeats
+--     normal_twice       normalising a second time changes nothing
 use mathlib.Core.Path.{◌≡◌, refl, sym, ap, ap₂, subst, ◌∙◌}
 use mathlib.Core.List.{List, [], ◌∷◌, ◌++◌, map}
 use mathlib.Core.Bool.{Bool, true, false, cond, ◌&&◌}

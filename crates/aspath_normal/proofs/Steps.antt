@@ -1,5 +1,5 @@
 -- The steps of dedup_coalesce, on segments: what each keeps, and that they come to dedup_coalesce.
---     steps-are    repeats may be removed before the scan and after it, instead of at its seams
+--     steps_are    repeats may be removed before the scan and after it, instead of at its seams
 use mathlib.Core.Path.{◌≡◌, refl, ap, ap₂, ◌∙◌}
 use mathlib.Core.List.{List, [], ◌∷◌, ◌++◌, map}
 use mathlib.Core.Bool.{Bool, true, false, cond}

@@ -8,7 +8,7 @@ use native.Mathlib.Omega.{arith}
 use lib.ListN.{get_or}
 use lib.Dec.{eqb, leb}
 use lib.Ieee.{Float, binary64, of_bits}
-use borrow.Author.Tests.{leb-true, not-true, not-false, eq-eqb, ne_eqb, le-leb}
+use borrow.Author.Tests.{leb-true, not-true, eq-eqb, ne_eqb, le-leb}
 use Rattle.network.specs.declared.IpAddr.{IpAddr}
 use Rattle.network.specs.declared.IpAddr.TheVariants.{V4, V6}
 use Rattle.seconds.specs.Seconds.{is_timestamp, timestamp_of_bits}

@@ -22,7 +22,7 @@ use Rattle.plain_reader.specs.Refinement.{Sound, FitsPrefixFact, Implements, Acc
 use Rattle.plain_reader.proofs.Demand3 as theory
 use Rattle.text_dump.specs.State.{cursor, moved}
 use Rattle.text_dump.specs.Rules.{WithAsns, rules}
-use Rattle.text_dump.specs.Next.{Step, stepped, next, lent}
+use Rattle.text_dump.specs.Next.{Step, stepped, next}
 use Rattle.text_dump.specs.declared.State.{State}
 use Rattle.text_dump.proofs.StateLaws.{moved_cursor, cursor_moved}
 use Rattle.text_dump.proofs.RulesLaws.{lines_fit}

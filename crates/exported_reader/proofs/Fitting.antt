@@ -89,7 +89,7 @@ short p h = go p.addr (leb-true p.len (bits p.addr) h)
     go (V4 n) h = omega arith
     go (V6 u l) h = omega arith
 
--- no line brings another (text_dump, RulesLaws.lines-fit): a state keeps fitting when its cursor is moved to where a line left it
+-- no line brings another (text_dump, RulesLaws.lines_fit): a state keeps fitting when its cursor is moved to where a line left it
 remembered_fits : (m : Remembered NetworkPrefix) → Plain.FitsPrefixFact Read m → FitsRemembered (stored m)
 remembered_fits nothing h = tt
 remembered_fits invalid h = tt

@@ -4,8 +4,8 @@
 -- In this form writers in a row need no measuring and no premise: each starts at the place that the one before answered, and together they write
 -- the append of their texts. The laws are in proofs/Output.antt:
 --   then                              two writers in a row are a writer of the append
---   all-left, next-left, none-left    the same for a loop, whose invariant is `Left`
---   too-short, kept, wrote, whole     a call that measures its text, refuses a list that is too short, and else writes from place 0
+--   all_left, next_left_lem, none_left    the same for a loop, whose invariant is `Left`
+--   too_short, kept, wrote, whole     a call that measures its text, refuses a list that is too short, and else writes from place 0
 -- A crate that prints states two laws of each of its texts, over plain variables, and hands them to `search`: what its writers' contracts make by `then`,
 -- and that the sum that its code computes is the text's length.
 use Rattle.std.specs.Prelude.{ℕ, ◌+◌, ◌-◌, min, ◌≡◌, List, ◌++◌, cond, length, take, drop, leb}

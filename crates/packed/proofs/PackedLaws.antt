@@ -1,14 +1,10 @@
 -- The remembered prefix as numbers.
 use Prim.Native.Nat.{ℕ, zero, suc, ◌%◌, ◌≤◌, ◌<◌}
-use mathlib.Core.Path.{◌≡◌, refl, sym, ◌∙◌}
+use mathlib.Core.Path.{◌≡◌, sym, ◌∙◌}
 use mathlib.Core.Bool.{cond}
-use mathlib.Core.List.{[], ◌∷◌}
-use mathlib.Core.Logic.{inl, inr}
 use native.Mathlib.Omega.{arith}
 use mir.Syntax.{w8, w32}
 use mir.Val.{Fits}
-use types.Run.{OneOf}
-use denote.Enum.Declared.{tag_of}
 use lib.Dec.{eqb}
 use borrow.Author.Tests.{ne_eqb}
 use Rattle.network.specs.declared.IpAddr.TheVariants.{V4, V6}
@@ -20,7 +16,6 @@ use Rattle.text_dump.specs.State.{plain}
 use Rattle.text_dump.specs.Rules.{text_of}
 use Rattle.text_dump.specs.declared.Remembered.{Remembered}
 use Rattle.text_dump.specs.declared.Remembered.TheVariants.{Nothing, Invalid, Valid}
-use Rattle.text_dump.specs.contracts.Remembered.{the_type}
 use Rattle.packed.specs.Packed.{prefix_in, remembered_in}
 use Rattle.packed.specs.declared.Packed.{Packed}
 

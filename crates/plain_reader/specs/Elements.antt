@@ -71,8 +71,8 @@ module _ (L : Rules) where
   abbrev pub classified : List ℕ → List (Line L.Prefix L.Route)
   classified t = map L.classify (lines t)
 
-  -- the elements of a text read alone (01, Reader): those of each reading that is opened behind the header and goes to its End, by `read-alone` of demand 3;
-  -- there is such a reading where the lines are readable and the places suffice, by `can-read-alone` (proofs/Alone)
+  -- the elements of a text read alone (01, Reader): those of each reading that is opened behind the header and goes to its End, by `read_alone` of demand 3;
+  -- there is such a reading where the lines are readable and the places suffice, by `can_read_alone` (proofs/Alone)
   abbrev pub alone : List ℕ → List L.Element
   alone t = yielded nothing (classified t)
 

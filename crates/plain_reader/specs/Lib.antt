@@ -15,7 +15,7 @@
 -- Cursor      Reading by position, in place of lines left.
 -- Refinement  What has to be shown of a reader. `Implements`: its states hold such a cursor, among other fields or as bytes, and its next and
 --             turn move that cursor. `Accepts`: its opening sets the cursor behind the header, whatever part follows. Both together give
---             demand 3 (`demand-3` in proofs/Demand3), for every list of parts and every list of calls. proofs/Example is a whole instance.
+--             demand 3 (`demand_3` in proofs/Demand3), for every list of parts and every list of calls. proofs/Example is a whole instance.
 --
 -- 01's terms: part, plain reader, remembered prefix, wrapped prefix, prefix-bearing, blank-prefix, readable, read alone, joined body, End.
 pub mod Lists

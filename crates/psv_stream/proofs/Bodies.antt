@@ -1,8 +1,6 @@
 -- The loop over the body's lines: what each line does, and what the loop comes to.
 use Rattle.std.proofs.Common.{◌≡◌, ℕ, ◌+◌, ◌-◌, ◌<◌, ◌≤◌, Bool, true, false, cond, leb, List, [], ◌∷◌, ◌++◌, length, take, drop, sym, refl, ap, ◌∙◌, subst, inl, arith, length-take, leb-false, leb-true}
 use mathlib.Core.Bool.{false≢true}
-use types.Run.{OneOf}
-use denote.Enum.Declared.{tag_of}
 use Rattle.scan.specs.Lines.{lines}
 use Rattle.scan.proofs.LineLaws.{line_alone}
 use Rattle.network.specs.declared.NetworkPrefix.{NetworkPrefix}
@@ -20,7 +18,6 @@ use Rattle.text_dump.specs.Rules.{text_of}
 use Rattle.text_dump.specs.declared.Remembered.{Remembered}
 use Rattle.text_dump.specs.declared.Remembered.TheVariants as remembered
 use Rattle.text_dump.specs.declared.State.{State}
-use Rattle.text_dump.specs.contracts.Remembered.{the_type}
 use Rattle.text_dump.proofs.StateLaws.{plain_stored, moved_cursor}
 use Rattle.text_dump.proofs.LineLaws.{turned_moved, spoilt_anywhere, fine_wrapped, fine_route, unreadable_line_lem, passed_line, wrapped_line, other_route, yielding_route, long_route}
 use Rattle.input.specs.Input.{Fronts}
@@ -28,7 +25,7 @@ use Rattle.input.specs.declared.Front.{Front}
 use Rattle.input.specs.declared.Front.TheVariants as front
 use Rattle.packed.specs.Packed.{remembered_in}
 use Rattle.packed.specs.declared.Packed.{Packed}
-use Rattle.psv_stream.specs.Printed.{body, refusal_text, refuse, printed_element, answered, after, next_of}
+use Rattle.psv_stream.specs.Printed.{refusal_text, refuse, printed_element, answered, after, next_of}
 use Rattle.psv_stream.specs.Run.{Runs}
 use Rattle.psv_stream.specs.Parts.{Puts, acts, Steps, Came, element_for, routed, PutRoute, front_of, Begins, kept_len, state_of, phase_of, step_of, Fine, Kept, Keeps, BodyDoes}
 use Rattle.psv_stream.specs.declared.Phase.{Phase}

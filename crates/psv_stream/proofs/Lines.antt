@@ -1,5 +1,5 @@
 -- What a line does that the loop over the head takes, and is not too long: the path line, a header line, a line under a spoilt state.
-use Rattle.std.proofs.Common.{◌≡◌, ℕ, ◌+◌, ◌<◌, ◌≤◌, Bool, true, false, List, ◌++◌, length, take, pos, refl, ap, ◌∙◌, arith, le-ltb, lt-ltb}
+use Rattle.std.proofs.Common.{◌≡◌, ℕ, ◌<◌, ◌≤◌, Bool, true, false, List, ◌++◌, length, take, pos, refl, ap, ◌∙◌, arith, le-ltb, lt-ltb}
 use lib.Ieee.{Float, fin, binary64, of_bits}
 use Rattle.timestamp.specs.Dates.{infer_timestamp}
 use Rattle.timestamp.specs.declared.Inferred.{Inferred}

@@ -1,5 +1,5 @@
 -- The lines of a header that opening accepts: at each but the last there is no column header yet.
-use Rattle.std.proofs.Common.{◌≡◌, ℕ, zero, suc, ◌+◌, ◌-◌, ◌^◌, ◌<◌, ◌≤◌, Bool, true, false, cond, leb, List, [], ◌∷◌, ◌++◌, length, take, drop, sym, refl, ap, ◌∙◌, append_assoc, append-nil, mod-eq_of_lt, arith, length-append, length-drop, le-ltb, lt-ltb, leb-false, leb-true}
+use Rattle.std.proofs.Common.{◌≡◌, ℕ, zero, suc, ◌+◌, ◌^◌, ◌<◌, ◌≤◌, Bool, true, false, cond, leb, List, [], ◌∷◌, ◌++◌, length, take, drop, sym, refl, ap, ◌∙◌, append_assoc, append-nil, mod-eq_of_lt, arith, length-append, length-drop, le-ltb, lt-ltb, leb-false, leb-true}
 use mathlib.Core.List.{flatten, head_d, nil≢cons, tail-eq_of_cons-eq}
 use mathlib.Core.Option.{Option, some, none}
 use lib.Ieee.{Float}

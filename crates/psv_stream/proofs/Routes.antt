@@ -1,5 +1,5 @@
 -- A route's line: by the numbers of its path, or put together from texts; and what the lines of the body begin with.
-use Rattle.std.proofs.Common.{◌≡◌, ℕ, ◌+◌, ◌-◌, ◌<◌, ◌≤◌, Bool, true, false, not, ◌||◌, ltb, leb, List, ◌++◌, length, take, drop, sym, refl, ap, ◌∙◌, subst, append_assoc, arith, length-append, length-take, take_at, le-ltb, le-leb}
+use Rattle.std.proofs.Common.{◌≡◌, ℕ, ◌+◌, ◌<◌, ◌≤◌, Bool, true, false, not, ◌||◌, ltb, leb, List, ◌++◌, length, take, drop, sym, refl, ap, ◌∙◌, subst, append_assoc, arith, length-append, length-take, take_at, le-ltb, le-leb}
 use lib.Seq.{take-length}
 use borrow.Author.Tests.{lt-leb}
 use Rattle.output.specs.Output.{Written, front, answer, room, overwrite}

@@ -1,8 +1,6 @@
 -- Lines taken one after another.
-use Rattle.std.proofs.Common.{◌≡◌, ℕ, ◌+◌, ◌-◌, ◌<◌, ◌≤◌, Bool, true, false, not, ◌⊎◌, List, [], ◌∷◌, ◌++◌, length, take, drop, sym, refl, ap, ◌∙◌, subst, inl, inr, ⊎_elim, append_assoc, append-nil, arith, length-append, length-drop, take-append-drop, drop_of_length-le, length-take, take_all, drop-drop}
+use Rattle.std.proofs.Common.{◌≡◌, ℕ, ◌+◌, ◌-◌, ◌<◌, ◌≤◌, Bool, true, false, not, ◌⊎◌, List, [], ◌++◌, length, take, drop, sym, refl, ap, ◌∙◌, subst, inl, inr, ⊎_elim, append_assoc, append-nil, arith, length-append, length-drop, take-append-drop, drop_of_length-le, length-take, take_all, drop-drop}
 use mathlib.Core.Bool.{false≢true}
-use types.Run.{OneOf}
-use denote.Enum.Declared.{tag_of}
 use lib.Seq.{take-append-add, drop-append-add}
 use Rattle.text_dump.specs.declared.State.{State}
 use Rattle.input.specs.Input.{Starved}
@@ -13,7 +11,6 @@ use Rattle.psv_stream.specs.declared.Phase.TheVariants.{Path, Header, Body, Stop
 use Rattle.psv_stream.specs.declared.Ran.{Ran}
 use Rattle.psv_stream.specs.declared.Step.{Step}
 use Rattle.psv_stream.specs.declared.Step.TheVariants as step
-use Rattle.psv_stream.specs.contracts.Phase.{the_type}
 use Rattle.psv_stream.proofs.Steps.{rest_stopped}
 
 pub none_yet : (p : Phase) (s : List ℕ) (ended : Bool) (out : List ℕ) → Came p s ended out p 0 0 out

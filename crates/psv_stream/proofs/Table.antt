@@ -1,5 +1,5 @@
 -- What is printed of a table of which no line is refused: the PSV lines of its elements, which are those of the joined body (demand 3).
-use Rattle.std.proofs.Common.{◌≡◌, ℕ, ◌+◌, ◌-◌, ◌≤◌, true, List, [], ◌∷◌, ◌++◌, map, length, sym, refl, ap, ◌∙◌, append-nil, arith, le-ltb, le-leb}
+use Rattle.std.proofs.Common.{◌≡◌, ℕ, ◌-◌, ◌≤◌, true, List, [], ◌∷◌, ◌++◌, map, length, sym, refl, ap, ◌∙◌, append-nil, arith, le-ltb, le-leb}
 use mathlib.Core.List.{flatten, map-append}
 use mathlib.Core.Option.{none}
 use lib.Ieee.{Float}

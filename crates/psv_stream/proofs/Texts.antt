@@ -1,5 +1,5 @@
 -- Texts at the front of the lent list: a refusal, the PSV header, an element's line.
-use Rattle.std.proofs.Common.{◌≡◌, ℕ, ◌+◌, ◌-◌, ◌<◌, ◌≤◌, Bool, true, false, cond, ltb, leb, List, [], ◌++◌, length, take, drop, sym, refl, ap, ◌∙◌, subst, append_assoc, zero-add, arith, length-append, take-append-drop, length-take, take-take, take_at, drop_at, w64, Fits, ltb-false, ltb-true, le-ltb, lt-ltb, leb-false, leb-true}
+use Rattle.std.proofs.Common.{◌≡◌, ℕ, ◌<◌, ◌≤◌, Bool, true, false, cond, ltb, leb, List, [], ◌++◌, length, take, drop, sym, refl, ap, ◌∙◌, subst, append_assoc, zero-add, arith, length-append, take-append-drop, length-take, take-take, take_at, drop_at, w64, Fits, ltb-false, ltb-true, le-ltb, lt-ltb, leb-false, leb-true}
 use lib.Seq.{drop-append-le}
 use Rattle.scan.specs.Ascii.{ascii}
 use Rattle.decimal_display.specs.Printed.{decimal}
@@ -8,7 +8,7 @@ use Rattle.output.specs.declared.Put.{Put}
 use Rattle.output.specs.declared.Put.TheVariants as answers
 use Rattle.decimal_display.proofs.Printed.{digits_most}
 use Rattle.output.proofs.Output.{then, all_written, overwrite_all, room_all}
-use Rattle.elem.specs.Element.{spoilt, numbers}
+use Rattle.elem.specs.Element.{spoilt}
 use Rattle.elem.specs.declared.Element.{Element}
 use Rattle.aspath_display.specs.Display.{separated}
 use Rattle.psv.specs.Line.{header_text, psv_text, Printed}

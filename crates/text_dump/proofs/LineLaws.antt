@@ -4,9 +4,6 @@ use mathlib.Core.Path.{◌≡◌, refl, sym, ap, subst, ◌∙◌}
 use mathlib.Core.Bool.{Bool, true, false, not, ◌||◌}
 use mathlib.Core.List.{List, [], ◌∷◌, head_d, nil≢cons}
 use native.Mathlib.Omega.{arith}
-use types.Run.{OneOf}
-use denote.Enum.Declared.{tag_of}
-use Rattle.text_dump.specs.contracts.Remembered.{the_type}
 use lib.ListN.{length, take, drop}
 use lib.Seq.{take_all}
 use lib.Dec.{ltb}

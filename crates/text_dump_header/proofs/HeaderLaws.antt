@@ -15,7 +15,7 @@ use Rattle.columns.specs.declared.Columns.{Columns}
 use Rattle.columns.specs.declared.ColumnsRead.{ColumnsRead}
 use Rattle.columns.specs.declared.ColumnsRead.TheVariants.{Found, Nothing as NoColumns}
 use Rattle.text_dump_header.specs.Preamble.{preamble_line}
-use Rattle.text_dump_header.specs.Header.{columns_of, is_found, through, unreadable_line, preamble_of, last_columns, total, header_of, answer, header_from, missing, header}
+use Rattle.text_dump_header.specs.Header.{columns_of, is_found, through, unreadable_line, preamble_of, last_columns, total, header_of, header_from, missing, header}
 use Rattle.text_dump_header.specs.declared.Preamble.{Preamble}
 use Rattle.text_dump_header.specs.declared.HeaderRead.TheVariants.{Header, Unreadable}
 

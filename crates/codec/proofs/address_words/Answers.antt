@@ -1,5 +1,4 @@
 -- `codec::address_words` meets its contract. Assumes nothing.
-use borrow.Author.Rules.{rules}
 use Rattle.codec.proofs.address_words.Goals as goal
 
 pub returns-in-V4 : goal.returns-in-V4

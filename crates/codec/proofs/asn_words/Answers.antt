@@ -1,5 +1,4 @@
 -- `codec::asn_words` meets its contract. Assumes nothing.
-use borrow.Author.Rules.{rules}
 use Rattle.codec.proofs.asn_words.Goals as goal
 
 pub returns-in-Known : goal.returns-in-Known

@@ -1,6 +1,5 @@
 -- `codec::bits_of` meets its contract. Assumes nothing.
 use Rattle.codec.proofs.Writing.{a_number, a_nan}
-use borrow.Author.Rules.{rules}
 use Rattle.codec.proofs.bits_of.Goals as goal
 
 pub float_to_bits-result : goal.float_to_bits-result

@@ -1,6 +1,5 @@
 -- `codec::element_words` meets its contract. Assumes nothing.
 use Rattle.codec.proofs.Writing.{element_written}
-use borrow.Author.Rules.{rules}
 use Rattle.codec.proofs.element_words.Goals as goal
 
 pub returns : goal.returns

@@ -1,7 +1,6 @@
 -- `codec::float_of` meets its contract. Assumes nothing.
 use lib.Ieee.{div, of_bits}
 use Rattle.seconds.proofs.Bits.{bits_nan, of_number}
-use borrow.Author.Rules.{rules}
 use Rattle.codec.proofs.float_of.Goals as goal
 
 pub returns-then-bits-gt9218868437227405312 : goal.returns-then-bits-gt9218868437227405312

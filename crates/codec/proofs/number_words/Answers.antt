@@ -1,5 +1,4 @@
 -- `codec::number_words` meets its contract. Assumes nothing.
-use borrow.Author.Rules.{rules}
 use Rattle.codec.proofs.number_words.Goals as goal
 
 pub returns-in-Number : goal.returns-in-Number

@@ -1,5 +1,4 @@
 -- `codec::origin_words` meets its contract. Assumes nothing.
-use borrow.Author.Rules.{rules}
 use Rattle.codec.proofs.origin_words.Goals as goal
 
 pub returns-in_default : goal.returns-in_default

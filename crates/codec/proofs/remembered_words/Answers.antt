@@ -1,5 +1,4 @@
 -- `codec::remembered_words` meets its contract. Assumes nothing.
-use borrow.Author.Rules.{rules}
 use Rattle.codec.proofs.remembered_words.Goals as goal
 
 pub returns-in-Nothing : goal.returns-in-Nothing

@@ -1,6 +1,5 @@
 -- `codec::state_words` meets its contract. Assumes nothing.
 use Rattle.codec.proofs.Writing.{state_written}
-use borrow.Author.Rules.{rules}
 use Rattle.codec.proofs.state_words.Goals as goal
 
 pub returns : goal.returns

@@ -1,8 +1,3 @@
-use mathlib.Core.Path.{◌≡◌}
-use Prim.Native.Nat.{◌+◌, ◌-◌, ◌≤◌}
-use lib.ListN.{length}
-use Rattle.path_text.specs.Path.{asns_of}
-use Rattle.path_text.specs.Walk.{asns_from}
 use Rattle.path_text.proofs.PathLaws.{found_end, other_steps, other_next, number_steps, number_next, number_count, number_left, step_less, step_inside, step_below, step_next, step_fits, count_starts, counted, count_same, count_more}
 use borrow.Author.Rules.{rules}
 use Rattle.path_text.proofs.count_asns.Goals as goal

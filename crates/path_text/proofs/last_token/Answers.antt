@@ -1,9 +1,4 @@
-use mathlib.Core.Path.{◌≡◌}
-use Prim.Native.Nat.{◌-◌}
-use lib.ListN.{length, drop}
 use borrow.Author.Rules.{rules}
-use Rattle.text.specs.White.{tokens}
-use Rattle.path_text.specs.Path.{last_or, last_token}
 use Rattle.path_text.proofs.PathLaws.{token_order, token_start, token_end, token_less, last_starts, last_found, last_later}
 use Rattle.path_text.proofs.last_token.Goals as goal
 

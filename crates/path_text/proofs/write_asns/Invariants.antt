@@ -1,11 +1,9 @@
-use mathlib.Core.Path.{◌≡◌, refl}
+use mathlib.Core.Path.{◌≡◌}
 use mathlib.Core.List.{◌++◌}
 use Prim.Native.Nat.{◌+◌, ◌-◌, ◌≤◌}
 use lib.ListN.{length, take, drop}
 use Rattle.path_text.specs.Path.{asns_of}
 use Rattle.path_text.specs.Walk.{asns_from}
-use Rattle.path_text.proofs.PathLaws.{found_end, other_steps, other_next, number_steps, number_next, number_count, number_left, step_less, step_inside, step_below, step_next, step_fits, count_starts, counted, count_same, count_more, plain_steps, plain_next, plain_count, plain_left, writing_starts, place_there, wrote_same, wrote_more, kept_more, room_more, written}
-use borrow.Author.Rules.{rules}
 use Rattle.path_text.proofs.write_asns.Given as goal
 
 abbrev pub invariant-loop-x : goal.invariant-loop-x

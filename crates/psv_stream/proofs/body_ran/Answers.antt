@@ -1,5 +1,4 @@
 use Rattle.psv_stream.proofs.Bodies.{ran}
-use Rattle.std.proofs.Common.{rules}
 use Rattle.psv_stream.proofs.body_ran.Goals as goal
 
 pub returns : goal.returns

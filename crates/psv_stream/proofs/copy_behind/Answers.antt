@@ -1,5 +1,4 @@
 use Rattle.psv_stream.proofs.Routes.{copied}
-use Rattle.std.proofs.Common.{rules}
 use Rattle.psv_stream.proofs.copy_behind.Goals as goal
 
 pub returns : goal.returns

@@ -1,4 +1,4 @@
-use Rattle.std.proofs.Common.{◌∙◌, arith, length-take, rules}
+use Rattle.std.proofs.Common.{◌∙◌, arith, length-take}
 use lib.Seq.{length_front}
 use Rattle.psv_stream.proofs.Copying.{spelled, spelled_order, spelled_inside, copied_put, copied_short}
 use Rattle.psv_stream.proofs.copy_route.Goals as goal

@@ -1,5 +1,4 @@
 use Rattle.psv_stream.proofs.Lines.{path_ends, header_ends, body_ends, stopped_ends}
-use Rattle.std.proofs.Common.{rules}
 use Rattle.psv_stream.proofs.end.Goals as goal
 
 pub returns-in-Path : goal.returns-in-Path

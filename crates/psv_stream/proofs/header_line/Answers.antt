@@ -1,4 +1,4 @@
-use Rattle.std.proofs.Common.{arith, length-take, rules}
+use Rattle.std.proofs.Common.{arith, length-take}
 use Rattle.psv_stream.proofs.Lines.{opens, no_columns_yet, no_columns, unreadable_line_lem, no_timestamp}
 use Rattle.psv_stream.proofs.header_line.Goals as goal
 

@@ -1,5 +1,4 @@
 use Rattle.psv_stream.proofs.Lines.{head_body}
-use Rattle.std.proofs.Common.{rules}
 use Rattle.psv_stream.proofs.is_head.Goals as goal
 
 pub returns-in-Body : goal.returns-in-Body

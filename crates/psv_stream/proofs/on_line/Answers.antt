@@ -1,5 +1,4 @@
 use Rattle.psv_stream.proofs.Lines.{on_path, on_header, on_body, on_stopped}
-use Rattle.std.proofs.Common.{rules}
 use Rattle.psv_stream.proofs.on_line.Goals as goal
 
 pub returns-in-Path : goal.returns-in-Path

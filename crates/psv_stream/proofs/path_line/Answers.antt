@@ -1,4 +1,4 @@
-use Rattle.std.proofs.Common.{arith, length-take, rules}
+use Rattle.std.proofs.Common.{arith, length-take}
 use Rattle.psv_stream.proofs.Lines.{path_dated, path_undated, path_unreadable}
 use Rattle.psv_stream.proofs.path_line.Goals as goal
 

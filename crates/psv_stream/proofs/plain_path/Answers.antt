@@ -1,5 +1,5 @@
-use Rattle.std.proofs.Common.{◌+◌, ◌-◌, ◌<◌, length, arith, rules}
-use Rattle.psv_stream.proofs.Copying.{Copied, copied_starts, copied_ends, copied_inside, copied_more}
+use Rattle.std.proofs.Common.{◌+◌, ◌<◌, length, arith, rules}
+use Rattle.psv_stream.proofs.Copying.{copied_starts, copied_ends, copied_inside, copied_more}
 -- behind a number there is room for its space
 use Rattle.psv_stream.proofs.plain_path.Goals as goal
 

@@ -1,5 +1,4 @@
 use Rattle.psv_stream.proofs.Routes.{by_copy, by_numbers}
-use Rattle.std.proofs.Common.{rules}
 use Rattle.psv_stream.proofs.print_route.Goals as goal
 
 pub returns-in_default : goal.returns-in_default

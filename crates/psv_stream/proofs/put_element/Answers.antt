@@ -1,4 +1,4 @@
-use Rattle.std.proofs.Common.{arith, length-take, rules}
+use Rattle.std.proofs.Common.{arith, length-take}
 use Rattle.psv_stream.proofs.Texts.{element_put, element_spoilt, element_short}
 use Rattle.psv_stream.proofs.put_element.Goals as goal
 

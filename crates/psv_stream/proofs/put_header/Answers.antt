@@ -1,5 +1,4 @@
 use Rattle.psv_stream.proofs.Texts.{header_never_short, header_put}
-use Rattle.std.proofs.Common.{rules}
 use Rattle.psv_stream.proofs.put_header.Goals as goal
 
 pub returns-in_default : goal.returns-in_default

@@ -1,4 +1,4 @@
-use Rattle.std.proofs.Common.{◌+◌, ◌≤◌, length, arith, rules}
+use Rattle.std.proofs.Common.{◌+◌, ◌≤◌, length, arith}
 use Rattle.psv_stream.proofs.Runs.{runs_head, runs_stopped, body_fine, runs_on, sum_inside, sum_within}
 use Rattle.psv_stream.proofs.run.Goals as goal
 

@@ -1,5 +1,4 @@
 use Rattle.psv_stream.proofs.Routes.{none_begun, begun, not_begun}
-use Rattle.std.proofs.Common.{rules}
 use Rattle.psv_stream.proofs.start_of.Goals as goal
 
 pub returns-then-front_len-eq0 : goal.returns-then-front_len-eq0

@@ -1,7 +1,6 @@
-use Rattle.std.proofs.Common.{◌≡◌, ◌+◌, ◌-◌, ◌≤◌, length, refl, arith, rules}
-use Rattle.psv_stream.specs.Parts.{Kept}
+use Rattle.std.proofs.Common.{◌+◌, ◌≤◌, length, refl, arith, rules}
 use Rattle.psv_stream.proofs.Runs.{room_length}
-use Rattle.psv_stream.proofs.Bodies.{At, none_taken, first_kept, full, same_new, inside, within, fewer, takes, keeps, stops_within, stops, starves}
+use Rattle.psv_stream.proofs.Bodies.{none_taken, first_kept, full, same_new, inside, within, fewer, takes, keeps, stops_within, stops, starves}
 use Rattle.psv_stream.proofs.take_body.Goals as goal
 
 ruleset laws = (room_length, same_new)

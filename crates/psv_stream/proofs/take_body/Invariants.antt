@@ -1,7 +1,6 @@
-use Rattle.std.proofs.Common.{◌≡◌, ◌+◌, ◌-◌, ◌≤◌, length, refl, arith, rules}
+use Rattle.std.proofs.Common.{◌≡◌, ◌-◌, length}
 use Rattle.psv_stream.specs.Parts.{Kept}
-use Rattle.psv_stream.proofs.Runs.{room_length}
-use Rattle.psv_stream.proofs.Bodies.{At, none_taken, first_kept, full, same_new, inside, within, fewer, takes, keeps, stops_within, stops, starves}
+use Rattle.psv_stream.proofs.Bodies.{At}
 use Rattle.psv_stream.proofs.take_body.Given as goal
 
 abbrev pub invariant-loop-out : goal.invariant-loop-out

@@ -1,6 +1,4 @@
-use Rattle.std.proofs.Common.{◌+◌, ◌-◌, ◌≤◌, length, arith, rules}
-use Rattle.psv_stream.specs.Run.{header_bytes}
-use Rattle.psv_stream.specs.Parts.{Came}
+use Rattle.std.proofs.Common.{◌+◌, ◌≤◌, length, arith, rules}
 use Rattle.psv_stream.proofs.Runs.{none_yet, full_head, at_body, in_head, room_length, same_new, inside, within, stops_within, fewer, takes, head_stops, head_starves}
 use Rattle.psv_stream.proofs.take_head.Goals as goal
 

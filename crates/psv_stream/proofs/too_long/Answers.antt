@@ -1,5 +1,4 @@
 use Rattle.psv_stream.proofs.Lines.{path_long, header_long, body_long, stopped_long}
-use Rattle.std.proofs.Common.{rules}
 use Rattle.psv_stream.proofs.too_long.Goals as goal
 
 pub returns-in-Path : goal.returns-in-Path

@@ -1,11 +1,7 @@
 use mathlib.Core.Path.{◌≡◌, ap, ◌∙◌}
-use Prim.Native.Nat.{◌≤◌, ◌-◌}
-use lib.ListN.{length, take, drop}
 use borrow.Author.Rules.{rules}
-use mathlib.Core.Logic.{⊎_elim}
 use Rattle.text_dump_header.specs.declared.HeaderRead.TheVariants.{Header}
-use Rattle.scan.specs.Lines.{lines}
-use Rattle.text_dump_header.specs.Header.{through, header_of, header_from, header}
+use Rattle.text_dump_header.specs.Header.{header_of, header}
 use Rattle.text_dump_header.proofs.HeaderLaws.{joined, scan_starts, scanned, text_ends, line_order, line_inside, line_unreadable, line_columns, line_passed}
 use Rattle.text_dump_header.proofs.parse_header.Goals as goal
 use Rattle.text_dump_header.proofs.parse_header.Goals.{then-met-eq64, else-met-eq64+then-at-text, else-met-eq64+else-at-text+else-not-is_readable+in-Found}
@@ -16,7 +12,7 @@ ruleset laws = (scan_starts, scanned, text_ends, line_order, line_inside, line_u
 met : (c : goal.After-header_of) → Header (header_of c.if-met-eq64.p c.if-met-eq64.columns) c.if-met-eq64.at ≡ header c.args.text.now
 met c =
     elim c.if-met-eq64.branch [
-      then-met-eq64 w ↦ search (joined, laws, rules)
+      | then-met-eq64 w ↦ search (joined, laws, rules)
       | else-met-eq64+then-at-text w ↦ search (joined, laws, rules)
       | else-met-eq64+else-at-text+else-not-is_readable+in-Found w ↦ search (joined, laws, rules)
     ]

@@ -1,12 +1,8 @@
-use mathlib.Core.Path.{◌≡◌, ap, ◌∙◌}
+use mathlib.Core.Path.{◌≡◌}
 use Prim.Native.Nat.{◌≤◌, ◌-◌}
 use lib.ListN.{length, take, drop}
-use borrow.Author.Rules.{rules}
-use mathlib.Core.Logic.{⊎_elim}
-use Rattle.text_dump_header.specs.declared.HeaderRead.TheVariants.{Header}
 use Rattle.scan.specs.Lines.{lines}
-use Rattle.text_dump_header.specs.Header.{through, header_of, header_from, header}
-use Rattle.text_dump_header.proofs.HeaderLaws.{joined, scan_starts, scanned, text_ends, line_order, line_inside, line_unreadable, line_columns, line_passed}
+use Rattle.text_dump_header.specs.Header.{through, header_from, header}
 -- where the ways out of the loop meet
 use Rattle.text_dump_header.proofs.parse_header.Given as goal
 

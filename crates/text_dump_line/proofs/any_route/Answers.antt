@@ -1,7 +1,4 @@
-use mathlib.Core.Path.{◌≡◌}
-use mathlib.Core.Bool.{cond}
-use Rattle.text_dump_line.specs.Line.{any_route}
-use Rattle.text_dump_line.proofs.LineLaws.{to_try, all_to_try, tried_route, all_tried, unshifted, shifted_to_try, shifted_once}
+use Rattle.text_dump_line.proofs.LineLaws.{all_to_try, tried_route, all_tried, unshifted, shifted_to_try, shifted_once}
 use borrow.Author.Rules.{rules}
 use Rattle.text_dump_line.proofs.any_route.Goals as goal
 

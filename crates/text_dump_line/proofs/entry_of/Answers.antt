@@ -1,5 +1,4 @@
-use Prim.Native.Nat.{◌-◌}
-use Rattle.text_dump_line.proofs.LineLaws.{Numbers, no_number, number_slice, number_more, path_whole, part_inside, entry}
+use Rattle.text_dump_line.proofs.LineLaws.{no_number, number_slice, number_more, path_whole, part_inside, entry}
 use borrow.Author.Rules.{rules}
 use Rattle.text_dump_line.proofs.entry_of.Goals as goal
 

@@ -1,6 +1,5 @@
 use Prim.Native.Nat.{◌-◌}
-use Rattle.text_dump_line.proofs.LineLaws.{Numbers, no_number, number_slice, number_more, path_whole, part_inside, entry}
-use borrow.Author.Rules.{rules}
+use Rattle.text_dump_line.proofs.LineLaws.{Numbers}
 use Rattle.text_dump_line.proofs.entry_of.Given as goal
 
 abbrev pub invariant-loop-k : goal.invariant-loop-k

@@ -1,8 +1,7 @@
-use mathlib.Core.Path.{◌≡◌, refl, ap}
+use mathlib.Core.Path.{◌≡◌}
 use Prim.Native.Nat.{◌-◌, ◌≤◌}
 use lib.ListN.{length}
-use borrow.Author.Rules.{rules}
-use Rattle.text_dump.proofs.NextLaws.{Came, comes, line_order, line_inside, line_less, passes, wraps, passes_route, refuses_5, in_part, refuses_6, says_end, at_route_lem}
+use Rattle.text_dump.proofs.NextLaws.{Came}
 use Rattle.text_dump.proofs.State.next.Given as goal
 
 abbrev pub invariant-loop-at : goal.invariant-loop-at
