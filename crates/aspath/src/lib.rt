@@ -63,13 +63,13 @@ pub fn is_spoilt(
     sum_lengths(&lengths[..segments]) != count as u64
 }
 
-#[derive(Drop)]
+#[derive(Clone, Copy)]
 pub enum RouteLen {
     Len(usize),
     Spoilt,
 }
 
-#[derive(Drop)]
+#[derive(Clone, Copy)]
 pub enum Variations {
     Count(u64),
     TooMany,

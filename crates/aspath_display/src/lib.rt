@@ -7,7 +7,7 @@ ghost use Rattle.output.specs.Output.{Written};
 ghost use Rattle.aspath.specs.Record.{spoilt, segments_of, path};
 ghost use Rattle.aspath_display.specs.Display.{lead, separated, segment_text, path_text, Measured, Displayed};
 
-#[derive(Drop)]
+#[derive(Clone, Copy)]
 pub enum Shown {
     Wrote(usize),
     TooShort,

@@ -39,7 +39,7 @@ fn same_u32(a: &[u32], b: &[u32]) -> bool
     true
 }
 
-#[derive(Drop)]
+#[derive(Clone, Copy)]
 pub enum Equivalence {
     // whether they are equivalent, and the counts of segments and numbers of the first path and of the second
     Answer(bool, usize, usize, usize, usize),

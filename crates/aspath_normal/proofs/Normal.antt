@@ -1,5 +1,5 @@
 -- The normal form.
---     normal-sorted      its sets are in rising order
+--     normal_sorted      its sets are in rising order
 --     normal_apart       no two neighbours merge: no two sequences of one kind stand next to each other, and an empty sequence stands alone
 --     normal_segments    each segment is a sequence without repeats next to each other, or a set in rising order of no or several numbers, without repeats
 --     normal_twice       normalising a second time changes nothing

@@ -11,7 +11,7 @@ ghost use Rattle.aspath_normal.specs.Parts.{FirstKept, kept_from, Deduped};
 ghost use Rattle.aspath_normal.specs.Whole.{Fit, NormalIn};
 ghost use Rattle.aspath_normal.specs.Entries.{Coalesced, entry_of, merge_entries, entries, step_of};
 
-#[derive(Drop)]
+#[derive(Clone, Copy)]
 pub enum Normalised {
     // the segments and the numbers of the new record
     Counts(usize, usize),
@@ -26,7 +26,7 @@ fn is_sequence(kind: u8) -> bool
 
 // What the scan of coalesce does with one segment more: the kind and length that are last then, and by how many places they
 // stand further.
-#[derive(Drop)]
+#[derive(Clone, Copy)]
 struct Step {
     advance: usize,
     kind: u8,
@@ -203,7 +203,7 @@ fn sort_sets(kinds: &[u8], lengths: &[u32], numbers: &mut [u32])
     }
 }
 
-#[derive(Drop)]
+#[derive(Clone, Copy)]
 struct Sizes {
     segments: usize,
     numbers: usize,

@@ -6,14 +6,14 @@ ghost use Rattle.aspath.specs.Lists.{any};
 ghost use Rattle.aspath.specs.Record.{spoilt, path};
 ghost use Rattle.aspath_numbers.specs.Numbers.{contains_answer, single, origin_answer, collector_answer};
 
-#[derive(Drop)]
+#[derive(Clone, Copy)]
 pub enum Contains {
     Is(bool),
     Spoilt,
 }
 
 // What a call on the first or the last number answers.
-#[derive(Drop)]
+#[derive(Clone, Copy)]
 pub enum End {
     Number(u32),
     Nothing,

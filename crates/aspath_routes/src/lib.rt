@@ -11,7 +11,7 @@ ghost use Rattle.aspath_routes.specs.Routes.{taken, left, numbered, Routed};
 
 use aspath::{RouteLen, Variations};
 
-#[derive(Drop)]
+#[derive(Clone, Copy)]
 pub enum U32Vec {
     Count(usize),
     Nothing,
@@ -162,7 +162,7 @@ pub fn to_u32_vec_opt(
     U32Vec::Count(n)
 }
 
-#[derive(Drop)]
+#[derive(Clone, Copy)]
 pub enum Route {
     Count(usize),
     FewPlaces,

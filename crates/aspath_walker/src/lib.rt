@@ -7,7 +7,7 @@ ghost use Rattle.aspath_routes.specs.Routes.{Routed};
 
 use aspath_routes::Route;
 
-#[derive(Drop)]
+#[derive(Clone, Copy)]
 pub struct RouteWalker<'a> {
     pub kinds: &'a [u8],
     pub lengths: &'a [u32],

@@ -4,14 +4,14 @@
 ghost use Rattle.std.specs.Prelude.{◌≡◌, ◌≤◌, ◌<◌};
 ghost use Rattle.calendar.specs.Calendar.{is_leap, year_length, month_length, total, days_of};
 
-#[derive(Drop)]
+#[derive(Clone, Copy)]
 pub struct Date {
     pub year: u32,
     pub month: u32,
     pub day: u32,
 }
 
-#[derive(Drop)]
+#[derive(Clone, Copy)]
 pub enum Days {
     Count(u64),
     Nothing,

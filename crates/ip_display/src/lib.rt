@@ -94,7 +94,7 @@ fn counted_with(g: u16, n: usize) -> usize
     if g == 0 { n + 1 } else { 0 }
 }
 
-#[derive(Drop)]
+#[derive(Clone, Copy)]
 struct Run {
     start: usize,
     len: usize,

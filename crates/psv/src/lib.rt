@@ -14,7 +14,7 @@ use network::{Asn, IpAddr, NetworkPrefix};
 use output::Put;
 use seconds::SecondRead;
 
-#[derive(Drop)]
+#[derive(Clone, Copy)]
 pub enum ElementPut {
     Wrote(usize),
     Spoilt,
