@@ -3,7 +3,7 @@
 
 use psv_stream::Phase;
 use std::io;
-use std::io::Read;
+use std::io::{ErrorKind, Read};
 
 // What is kept from turn to turn: the phase, how many bytes of the input are there, whether more are wanted, and whether there are no more.
 #[derive(Clone, Copy)]
@@ -102,8 +102,12 @@ fn output_buffer() -> [u8; 524288] {
     [0; 524288]
 }
 
+// Where nobody reads what is printed any more, the program is done.
 fn main(rt: HostRuntime) -> io::Result<()> {
     let mut input = input_buffer();
     let mut out = output_buffer();
-    print_all(&rt, &mut rt.stdin(), &mut input, &mut out)
+    match print_all(&rt, &mut rt.stdin(), &mut input, &mut out) {
+        Err(e) if e.kind() == ErrorKind::BrokenPipe => Ok(()),
+        ended => ended,
+    }
 }
