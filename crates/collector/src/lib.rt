@@ -69,6 +69,7 @@ fn put_element(e: Element, element: &mut [u8])
 }
 
 // 1 for a table, else 0.
+#[tactic(auto, using(crate::proofs::Calls::a_table, crate::proofs::Calls::no_table))]
 pub fn fernweeks_detect(bytes: &[u8]) -> u32
     ensures { result ≡ cond (detect bytes.now) 1 0 }
 {

@@ -42,6 +42,7 @@ fn few_digits(s: &[u8]) -> U64Read
 }
 
 // Any number of digits, with a test for overflow at each.
+#[tactic(auto, using(crate::proofs::Reading::over_tens))]
 fn many_digits(s: &[u8]) -> U64Read
     ensures { result ≡ read_digits s.now }
 {
@@ -83,6 +84,7 @@ pub fn read_digits(s: &[u8]) -> U64Read
     }
 }
 
+#[tactic(auto, using(crate::proofs::Reading::plus, crate::proofs::Reading::bare))]
 pub fn read_u64(s: &[u8]) -> U64Read
     ensures { result ≡ read_u64 s.now }
 {
@@ -96,6 +98,7 @@ pub fn read_u64(s: &[u8]) -> U64Read
     }
 }
 
+#[tactic(auto, using(crate::proofs::Reading::small32, crate::proofs::Reading::large32))]
 pub fn read_u32(s: &[u8]) -> U32Read
     ensures { result ≡ read_u32 s.now }
 {
@@ -117,6 +120,7 @@ pub enum DigitsRead {
 }
 
 // The digits from `at` on, where they are at most nine: none of these numbers is too large, so a text can be read up to where its digits end.
+#[tactic(auto, using(crate::proofs::Leading::run_many))]
 pub fn digits_at(s: &[u8], at: usize) -> DigitsRead
     ensures { result ≡ digits_at s.now at }
 {

@@ -85,6 +85,7 @@ fn digit(b: u8) -> u32
 }
 
 // One to three digits, at most 255, no leading zero. What stands behind them is the caller's.
+#[tactic(auto, using(crate::proofs::OctetLaws::octet_none, crate::proofs::OctetLaws::octet_one))]
 fn octet_at(s: &[u8], at: usize) -> OctetRead
     requires { at + 3 ≤ length s.now }
     ensures { ToldOctet s.now at result }
@@ -112,6 +113,7 @@ fn octet_at(s: &[u8], at: usize) -> OctetRead
 }
 
 // An address has at most 15 bytes: among 16 no end needs a test.
+#[tactic(auto, using(crate::proofs::FrontLaws::address_none))]
 fn address_front(s: &[u8]) -> FrontRead
     ensures { ToldAddress s.now result }
 {
@@ -139,6 +141,7 @@ fn address_front(s: &[u8]) -> FrontRead
 }
 
 // '/' and one or two digits, at most 32, where there are three bytes.
+#[tactic(auto, using(crate::proofs::BitsLaws::bits_none))]
 fn bits_at(s: &[u8], at: usize) -> BitsRead
     requires { at ≤ length s.now }
     ensures { ToldBits s.now at result }

@@ -42,7 +42,8 @@ fn write_octet(o: u8, out: &mut [u8], at: usize) -> usize
     if o < 10 {
         return output::write_byte(48 + o, out, at);
     }
-    if o < 100 {
+    let two_digits = o < 100;
+    if two_digits {
         let a = output::write_byte(48 + o / 10, out, at);
         return output::write_byte(48 + o % 10, out, a);
     }

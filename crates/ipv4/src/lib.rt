@@ -33,7 +33,8 @@ fn octet_of(s: &[u8], at: usize, end: usize, v: u32) -> OctetRead
         return OctetRead::Nothing;
     }
     if 1 < n {
-        if s[at] == b'0' {
+        let zero = s[at] == b'0';
+        if zero {
             return OctetRead::Nothing;
         }
     }

@@ -47,6 +47,7 @@ enum GroupRead {
     Nothing,
 }
 
+#[tactic(auto, using(crate::proofs::Ipv6::group_empty, crate::proofs::Ipv6::group_long))]
 fn group(p: &[u8]) -> GroupRead
     ensures { result ≡ as_group (group_of p.now) }
 {
@@ -205,6 +206,7 @@ fn fill(start: Groups, m: usize) -> Groups
     r
 }
 
+#[tactic(auto, using(crate::proofs::Sides::whole_yes, crate::proofs::Sides::whole_no))]
 fn whole(r: Groups) -> Ipv6Read
     ensures { result ≡ whole_of r }
 {
@@ -216,6 +218,7 @@ fn whole(r: Groups) -> Ipv6Read
 }
 
 // Left and right of "::", with the zero groups that it stands for. The right side is read once for its count.
+#[tactic(auto, using(crate::proofs::Sides::around_many))]
 fn around(left: &[u8], right: &[u8]) -> Ipv6Read
     ensures { result ≡ as_ipv6 (filled (side_of false left.now) (side_of true right.now)) }
 {

@@ -68,6 +68,7 @@ fn origin_by(b: u8) -> Origin
 }
 
 // Most parts end in a space and a letter, which two bytes tell.
+#[tactic(auto, using(crate::proofs::PathLaws::origin_read))]
 pub fn origin_of(s: &[u8]) -> OptOrigin
     ensures { result ≡ origin_of s.now }
 {
@@ -112,6 +113,7 @@ fn plain_number(part: &[u8], at: usize) -> Plain
 }
 
 // Is one byte left that is no digit? So the origin stands at most paths' end.
+#[tactic(auto, using(crate::proofs::PlainLaws::lone_many))]
 fn is_lone(part: &[u8], at: usize) -> bool
     ensures { result ≡ lone (drop at part.now) }
 {
@@ -208,6 +210,7 @@ pub enum AsnsPut {
 }
 
 // Are there places for a path's AS numbers? Each takes a byte of the part at least: where there are as many places, they need not be counted.
+#[tactic(auto, using(crate::proofs::PathLaws::many_places))]
 fn has_places(part: &[u8], places: usize) -> bool
     ensures { result ≡ leb (length (asns_of part.now)) places }
 {

@@ -380,7 +380,8 @@ pub fn display_element(e: Element, asns: &[u32], out: &mut [u8]) -> ElementPut
 pub fn get_psv_header(out: &mut [u8]) -> Put
     ensures { (result ≡ answer header_text out.old) × (out.new ≡ front header_text out.old) }
 {
-    if out.len() < 142 {
+    let short = out.len() < 142;
+    if short {
         return Put::TooShort;
     }
     Put::Wrote(output::write_bytes(

@@ -120,7 +120,8 @@ fn header_line(t: f64, number: u64, input: &[u8], end: usize, out: &mut [u8]) ->
         Opened::Unreadable(line) => Step::Stops(refuse(1, line as u64, out)),
         Opened::NoTimestamp => Step::Stops(refuse(4, 0, out)),
         Opened::NoColumns => {
-            if number < 64 {
+            let more = number < 64;
+            if more {
                 return Step::Took(0, 0, Phase::Header(t, number, end));
             }
             Step::Stops(refuse(2, 0, out))
@@ -338,7 +339,8 @@ fn plain_path(path: &[u8]) -> PlainPath
         if (w >> (8 * n as u64)) % 256 != 32 {
             return PlainPath::Other;
         }
-        if w % 256 == 48 {
+        let leading_zero = w % 256 == 48;
+        if leading_zero {
             return PlainPath::Other;
         }
         last = at;

@@ -144,6 +144,7 @@ pub fn next_word(s: &[u8], at: usize) -> Word
     }
 }
 
+#[tactic(auto, using(crate::proofs::SearchLaws::equal_length))]
 pub fn same(a: &[u8], b: &[u8]) -> bool
     ensures { result ≡ equal a.now b.now }
 {
@@ -168,6 +169,7 @@ pub fn starts_with(s: &[u8], p: &[u8]) -> bool
 }
 
 // The empty pattern stands at the place 0.
+#[tactic(auto, using(crate::proofs::SearchLaws::found_nowhere))]
 pub fn find(s: &[u8], p: &[u8]) -> Found
     ensures { result ≡ find_in s.now p.now }
 {

@@ -52,7 +52,8 @@ pub fn second_of(t: f64) -> SecondRead
         let Magnitude::Number(n) = whole_number(-t) else {
             return SecondRead::Nothing;
         };
-        if n <= 62167219200 {
+        let in_range = n <= 62167219200;
+        if in_range {
             SecondRead::Second(62167219200 - n)
         } else {
             SecondRead::Nothing
@@ -61,7 +62,8 @@ pub fn second_of(t: f64) -> SecondRead
         let Magnitude::Number(n) = whole_number(t) else {
             return SecondRead::Nothing;
         };
-        if n <= 253402300799 {
+        let in_range = n <= 253402300799;
+        if in_range {
             SecondRead::Second(62167219200 + n)
         } else {
             SecondRead::Nothing
@@ -93,7 +95,8 @@ pub fn timestamp_of(second: u64) -> f64
 pub fn timestamp_of_bits(bits: u64) -> TimestampRead
     ensures { result ≡ timestamp_of_bits bits }
 {
-    if bits % 0x8000_0000_0000_0000 > 0x7ff0_0000_0000_0000 {
+    let nan = bits % 0x8000_0000_0000_0000 > 0x7ff0_0000_0000_0000;
+    if nan {
         return TimestampRead::Nothing;
     }
     let t = f64::from_bits(bits);

@@ -56,6 +56,7 @@ fn wide_white(s: &[u8]) -> usize
 }
 
 // How many bytes the white character at the front has; 0 where there is none.
+#[tactic(auto, using(crate::proofs::WhiteLaws::one_yes, crate::proofs::WhiteLaws::one_no))]
 fn white(s: &[u8]) -> usize
     ensures { result ≡ white_len (chars s.now) }
 {
@@ -81,6 +82,7 @@ fn last(s: &[u8], k: usize) -> &[u8]
 }
 
 // How many bytes the white character at the end has; 0 where there is none.
+#[tactic(auto, using(crate::proofs::WhiteLaws::end_ascii))]
 fn white_end(s: &[u8]) -> usize
     ensures { result ≡ white_len (reverse (chars s.now)) }
 {
@@ -102,6 +104,7 @@ fn white_end(s: &[u8]) -> usize
 
 // What is left behind the white space at the front. Spaces and visible ASCII, which are nearly all, are told apart in the loop itself; the place moves
 // and the slice stays as it is, since one that is cut anew at each turn goes through memory.
+#[tactic(auto, using(crate::proofs::PlaceLaws::space_passed))]
 pub fn trim_start(s: &[u8]) -> &[u8]
     ensures { result.now ≡ trim_start s.now }
 {
@@ -178,6 +181,7 @@ fn ink_len(s: &[u8]) -> usize
 }
 
 // Where the characters from the place `at` on that are not white end. A space, which ends nearly every token, is told in the loop itself.
+#[tactic(auto, using(crate::proofs::PlaceLaws::space_ends))]
 fn token_end(s: &[u8], at: usize) -> usize
     requires { at ≤ length s.now }
     ensures { result ≡ length s.now - length (after_token (drop at s.now)) }

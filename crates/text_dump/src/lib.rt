@@ -94,6 +94,7 @@ pub fn replaced(text: PrefixText, m: Remembered) -> Remembered
 }
 
 // The last of the first `count` numbers; of all of them where there are fewer.
+#[tactic(auto, using(crate::proofs::StateLaws::no_origin, crate::proofs::StateLaws::last_origin))]
 pub fn origin_asn(asns: &[u32], count: usize) -> OptAsn
     ensures { result ≡ origin_asn (take count asns.now) }
 {

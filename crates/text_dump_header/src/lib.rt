@@ -175,7 +175,8 @@ pub fn parse_header(text: &[u8]) -> HeaderRead
     let mut at = 0;
     let mut met: usize = 0;
     let columns = 'lines: loop {
-        if met == 64 {
+        let all_scanned = met == 64;
+        if all_scanned {
             break 'lines ColumnsRead::Nothing;
         }
         if at == text.len() {

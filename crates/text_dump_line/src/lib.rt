@@ -48,6 +48,7 @@ pub enum Line {
 }
 
 // Whether every column has its slice, which of an ASCII line the order of the places tells.
+#[tactic(auto, using(crate::proofs::LineLaws::no_whole))]
 fn is_whole(ascii: bool, t: &[u8], c: Columns) -> bool
     requires { ascii ≡ true → all is_one t.now ≡ true }
     ensures { result ≡ true → Whole c t.now }
@@ -181,6 +182,7 @@ fn route_in(whole: bool, t: &[u8], c: Columns) -> RouteRead
 }
 
 // By the columns, else by those shifted. One place calls, so that the compiler joins the two functions and copies no route in between.
+#[tactic(auto, using(crate::proofs::LineLaws::unshifted))]
 fn any_route(ascii: bool, t: &[u8], c: Columns) -> RouteRead
     requires { ascii ≡ true → all is_one t.now ≡ true }
     ensures { result ≡ any_route c t.now }

@@ -84,6 +84,7 @@ fn date_of(s: &[u8]) -> Date
 }
 
 // The second of the moment; Nothing where there is no such moment.
+#[tactic(auto, using(crate::proofs::Moments::no_hour, crate::proofs::Moments::no_minute))]
 fn moment(date: Date, hour: u32, minute: u32) -> SecondRead
     ensures { result ≡ as_second (moment_of date hour minute) }
 {
@@ -105,6 +106,7 @@ fn moment_in(s: &[u8]) -> SecondRead
     moment(date_of(s), two(s, 11), two(s, 13))
 }
 
+#[tactic(auto, using(crate::proofs::Shapes::none_before))]
 fn digit_before(path: &[u8], i: usize) -> bool
     requires { i ≤ length path.now }
     ensures { result ≡ digit_before path.now i }

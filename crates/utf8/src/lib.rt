@@ -124,6 +124,7 @@ pub fn is_ascii(s: &[u8]) -> bool
 }
 
 // Is it UTF-8? Character by character.
+#[tactic(auto, using(crate::proofs::ReadableLaws::readable_ascii))]
 pub fn is_utf8(s: &[u8]) -> bool
     ensures { result ≡ readable s.now }
 {

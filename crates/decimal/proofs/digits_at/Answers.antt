@@ -19,9 +19,6 @@ returns-then-b-gt57 c = search (laws, rules)
 pub overflow_sub-i : goal.overflow_sub-i
 overflow_sub-i c = search (laws, rules)
 
-pub returns-then-i-at-ge9 : goal.returns-then-i-at-ge9
-returns-then-i-at-ge9 c = search (laws, rules)
-
 pub overflow_mul-v : goal.overflow_mul-v
 overflow_mul-v c = search (laws, rules)
 

@@ -14,9 +14,6 @@ returns-then-b-lt48 c = search low
 pub returns-then-b-gt57 : goal.returns-then-b-gt57
 returns-then-b-gt57 c = search high
 
-pub returns-then-v-gt1844674407370955161 : goal.returns-then-v-gt1844674407370955161
-returns-then-v-gt1844674407370955161 c = search over_tens
-
 pub returns-then-t-d : goal.returns-then-t-d
 returns-then-t-d c = search over_ones
 

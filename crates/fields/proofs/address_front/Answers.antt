@@ -26,9 +26,6 @@ returns-in_default c = search (laws, rules)
 pub bounds-s-e : goal.bounds-s-e
 bounds-s-e c = search (laws, rules)
 
-pub returns-then-s-e-ne46 : goal.returns-then-s-e-ne46
-returns-then-s-e-ne46 c = search (laws, rules)
-
 pub overflow_mul-a : goal.overflow_mul-a
 overflow_mul-a c = search (laws, rules)
 

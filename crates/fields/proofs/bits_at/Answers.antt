@@ -13,9 +13,6 @@ returns-then-s-at-lt3 c = search (laws, rules)
 pub bounds-s-at : goal.bounds-s-at
 bounds-s-at c = search (laws, rules)
 
-pub returns-then-s-at-ne47 : goal.returns-then-s-at-ne47
-returns-then-s-at-ne47 c = search (laws, rules)
-
 pub overflow_add-at : goal.overflow_add-at
 overflow_add-at c = search (laws, rules)
 
@@ -51,9 +48,6 @@ overflow_mul-n c = search (laws, rules)
 
 pub overflow_add-n : goal.overflow_add-n
 overflow_add-n c = search (laws, rules)
-
-pub returns-then-n-gt32 : goal.returns-then-n-gt32
-returns-then-n-gt32 c = search (laws, rules)
 
 pub overflow_cast-result-2 : goal.overflow_cast-result-2
 overflow_cast-result-2 c = search (laws, rules)

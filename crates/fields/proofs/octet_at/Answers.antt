@@ -28,9 +28,6 @@ overflow_add-result c = search (laws, rules)
 pub returns-then-b-gt9 : goal.returns-then-b-gt9
 returns-then-b-gt9 c = search (laws, rules)
 
-pub returns-then-a-eq0 : goal.returns-then-a-eq0
-returns-then-a-eq0 c = search (laws, rules)
-
 pub overflow_add-at-2 : goal.overflow_add-at-2
 overflow_add-at-2 c = search (laws, rules)
 
@@ -63,9 +60,6 @@ overflow_add-v c = search (laws, rules)
 
 pub overflow_add-v-2 : goal.overflow_add-v-2
 overflow_add-v-2 c = search (laws, rules)
-
-pub returns-then-v-gt255 : goal.returns-then-v-gt255
-returns-then-v-gt255 c = search (laws, rules)
 
 pub overflow_add-result-2 : goal.overflow_add-result-2
 overflow_add-result-2 c = search (laws, rules)

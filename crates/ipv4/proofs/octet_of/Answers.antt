@@ -16,11 +16,11 @@ returns-then-n-gt3 c = search (laws, rules)
 pub bounds-s-at : goal.bounds-s-at
 bounds-s-at c = search (laws, rules)
 
-pub returns-then-s-at-eq48 : goal.returns-then-s-at-eq48
-returns-then-s-at-eq48 c = search (laws, rules)
+pub returns-then-zero : goal.returns-then-zero
+returns-then-zero c = search (laws, rules)
 
-pub returns-else-s-at-eq48 : goal.returns-else-s-at-eq48
-returns-else-s-at-eq48 c = search (laws, rules)
+pub returns-else-zero : goal.returns-else-zero
+returns-else-zero c = search (laws, rules)
 
 pub returns-else-n-gt1 : goal.returns-else-n-gt1
 returns-else-n-gt1 c = search (laws, rules)

@@ -31,9 +31,6 @@ returns-in_default-side c = search (laws, rules)
 pub overflow_add-l : goal.overflow_add-l
 overflow_add-l c = search (laws, rules)
 
-pub returns-then-l-m-gt7 : goal.returns-then-l-m-gt7
-returns-then-l-m-gt7 c = search (laws, rules)
-
 pub overflow_sub-m : goal.overflow_sub-m
 overflow_sub-m c = search (laws, rules)
 

@@ -4,12 +4,6 @@ use Rattle.ipv6.proofs.group.Goals as goal
 
 ruleset laws = (group_empty, group_long, group_from, group_whole, group_stop, group_more, hex_room, hex_room_for, hex_grows, hex_fits)
 
-pub returns-then-p-eq0 : goal.returns-then-p-eq0
-returns-then-p-eq0 c = search (laws, rules)
-
-pub returns-then-p-gt4 : goal.returns-then-p-gt4
-returns-then-p-gt4 c = search (laws, rules)
-
 pub loop-i-init : goal.loop-i-init
 loop-i-init c = search (laws, rules)
 

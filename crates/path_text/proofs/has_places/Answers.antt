@@ -4,9 +4,6 @@ use Rattle.path_text.proofs.has_places.Goals as goal
 
 ruleset laws = (many_places, by_count)
 
-pub returns-then-part-places : goal.returns-then-part-places
-returns-then-part-places c = search (laws, rules)
-
 pub count_asns-requires : goal.count_asns-requires
 count_asns-requires c = search (laws, rules)
 

@@ -10,9 +10,6 @@ returns-then-part-at c = search (laws, rules)
 pub overflow_sub-part : goal.overflow_sub-part
 overflow_sub-part c = search (laws, rules)
 
-pub returns-then-part-at-gt1 : goal.returns-then-part-at-gt1
-returns-then-part-at-gt1 c = search (laws, rules)
-
 pub bounds-part-at : goal.bounds-part-at
 bounds-part-at c = search (laws, rules)
 

@@ -17,15 +17,6 @@ returns-then-n-lt2 c = search (laws, rules)
 pub bounds-s-n : goal.bounds-s-n
 bounds-s-n c = search (laws, rules)
 
-pub last_token-requires-then-s-n-ne32 : goal.last_token-requires-then-s-n-ne32
-last_token-requires-then-s-n-ne32 c = search (laws, rules)
-
-pub letter_of-requires-then-s-n-ne32 : goal.letter_of-requires-then-s-n-ne32
-letter_of-requires-then-s-n-ne32 c = search (laws, rules)
-
-pub returns-then-s-n-ne32 : goal.returns-then-s-n-ne32
-returns-then-s-n-ne32 c = search (laws, rules)
-
 pub overflow_sub-b : goal.overflow_sub-b
 overflow_sub-b c = search (laws, rules)
 

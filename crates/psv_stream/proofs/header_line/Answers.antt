@@ -5,8 +5,8 @@ use Rattle.psv_stream.proofs.header_line.Goals as goal
 pub slice_bounds-open-end : goal.slice_bounds-open-end
 slice_bounds-open-end c = simp length-take (omega arith)
 
-pub returns-then-number-lt64 : goal.returns-then-number-lt64
-returns-then-number-lt64 c = search no_columns_yet
+pub returns-then-more : goal.returns-then-more
+returns-then-more c = search (no_columns_yet, arith)
 
 pub returns-in-Table : goal.returns-in-Table
 returns-in-Table c = search opens
@@ -17,5 +17,5 @@ returns-in-Unreadable c = search unreadable_line_lem
 pub returns-in-NoTimestamp : goal.returns-in-NoTimestamp
 returns-in-NoTimestamp c = search no_timestamp
 
-pub returns-else-number-lt64 : goal.returns-else-number-lt64
-returns-else-number-lt64 c = search no_columns
+pub returns-else-more : goal.returns-else-more
+returns-else-more c = search (no_columns, arith)

@@ -23,9 +23,6 @@ starts_with-requires c = search (laws, rules)
 pub returns-then-starts_with : goal.returns-then-starts_with
 returns-then-starts_with c = search (laws, rules)
 
-pub returns-then-at-s : goal.returns-then-at-s
-returns-then-at-s c = search (laws, rules)
-
 pub overflow_add-at : goal.overflow_add-at
 overflow_add-at c = search (laws, rules)
 

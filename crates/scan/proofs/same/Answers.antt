@@ -5,9 +5,6 @@ use Rattle.scan.proofs.same.Goals as goal
 
 ruleset laws = (refl, equal_length, all_equal, byte_differs, byte_same)
 
-pub returns-then-a-b : goal.returns-then-a-b
-returns-then-a-b c = search (laws, rules)
-
 pub loop-i-init : goal.loop-i-init
 loop-i-init c = search (laws, rules)
 

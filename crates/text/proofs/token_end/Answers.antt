@@ -20,9 +20,6 @@ loop-end-smaller-then-next c = search (laws, rules)
 pub loop-end-preserved-then-next : goal.loop-end-preserved-then-next
 loop-end-preserved-then-next c = search (laws, rules)
 
-pub returns-then-next-eq32 : goal.returns-then-next-eq32
-returns-then-next-eq32 c = search (laws, rules)
-
 pub slice_bounds-ink_len-count : goal.slice_bounds-ink_len-count
 slice_bounds-ink_len-count c = search (laws, rules)
 

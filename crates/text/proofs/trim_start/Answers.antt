@@ -13,12 +13,6 @@ bounds-s-i c = search (laws, rules)
 pub overflow_add-i : goal.overflow_add-i
 overflow_add-i c = search (laws, rules)
 
-pub loop-i-smaller-then-first-eq32 : goal.loop-i-smaller-then-first-eq32
-loop-i-smaller-then-first-eq32 c = search (laws, rules)
-
-pub loop-i-preserved-then-first-eq32 : goal.loop-i-preserved-then-first-eq32
-loop-i-preserved-then-first-eq32 c = search (laws, rules)
-
 pub slice_bounds-result-count : goal.slice_bounds-result-count
 slice_bounds-result-count c = search (laws, rules)
 

@@ -13,9 +13,6 @@ overflow_cast-b c = search (laws, rules)
 pub returns-then-is_white : goal.returns-then-is_white
 returns-then-is_white c = search (laws, rules)
 
-pub returns-then-b-lt128 : goal.returns-then-b-lt128
-returns-then-b-lt128 c = search (laws, rules)
-
 pub wide_white-requires : goal.wide_white-requires
 wide_white-requires c = search (laws, rules)
 

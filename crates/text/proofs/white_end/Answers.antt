@@ -10,9 +10,6 @@ returns-then-n-eq0 c = search (laws, rules)
 pub overflow_sub-n : goal.overflow_sub-n
 overflow_sub-n c = search (laws, rules)
 
-pub returns-then-s-n-lt128 : goal.returns-then-s-n-lt128
-returns-then-s-n-lt128 c = search (laws, rules)
-
 pub returns-then-white-eq2 : goal.returns-then-white-eq2
 returns-then-white-eq2 c = search (laws, rules)
 

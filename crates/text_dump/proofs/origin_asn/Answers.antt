@@ -4,12 +4,6 @@ use Rattle.text_dump.proofs.origin_asn.Goals as goal
 
 ruleset laws = (no_origin, last_origin, no_numbers, last_of_all)
 
-pub returns-then-count-eq0 : goal.returns-then-count-eq0
-returns-then-count-eq0 c = search (laws, rules)
-
-pub returns-then-count-asns : goal.returns-then-count-asns
-returns-then-count-asns c = search (laws, rules)
-
 pub returns-then-asns-eq0 : goal.returns-then-asns-eq0
 returns-then-asns-eq0 c = search (laws, rules)
 

@@ -22,9 +22,6 @@ returns-in-Route c = search (laws, rules)
 pub enum_told-in_default : goal.enum_told-in_default
 enum_told-in_default c = search (laws, rules)
 
-pub returns-then-is_shifted : goal.returns-then-is_shifted
-returns-then-is_shifted c = search (laws, rules)
-
 pub shift_columns_left-requires : goal.shift_columns_left-requires
 shift_columns_left-requires c = search (laws, rules)
 

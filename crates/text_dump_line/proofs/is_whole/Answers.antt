@@ -7,9 +7,6 @@ ruleset laws = (no_whole, ascii_whole)
 pub returns-then-not-ascii : goal.returns-then-not-ascii
 returns-then-not-ascii c = search (laws, rules)
 
-pub returns-then-c-lt3 : goal.returns-then-c-lt3
-returns-then-c-lt3 c = search (laws, rules)
-
 pub returns-then-t-c : goal.returns-then-t-c
 returns-then-t-c c = search (laws, rules)
 

@@ -4,9 +4,6 @@ use Rattle.timestamp.proofs.digit_before.Goals as goal
 
 ruleset laws = (none_before, one_before)
 
-pub returns-then-i-eq0 : goal.returns-then-i-eq0
-returns-then-i-eq0 c = search (laws, rules)
-
 pub overflow_sub-i : goal.overflow_sub-i
 overflow_sub-i c = search (laws, rules)
 

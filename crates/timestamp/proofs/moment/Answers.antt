@@ -1,4 +1,3 @@
-use Prim.Native.Nat.{◌<◌, ◌^◌}
 use native.Mathlib.Omega.{arith}
 use Rattle.calendar.proofs.Callers.{count_bound}
 use Rattle.timestamp.proofs.Moments.{no_date, no_hour, no_minute, the_moment}
@@ -20,18 +19,8 @@ enum_told-1 c = search (laws, rules)
 pub returns-in_default : goal.returns-in_default
 returns-in_default c = search (laws, rules)
 
-pub returns-then-hour-gt23 : goal.returns-then-hour-gt23
-returns-then-hour-gt23 c = search (laws, rules)
-
-pub returns-then-minute-gt59 : goal.returns-then-minute-gt59
-returns-then-minute-gt59 c = search (laws, rules)
-
-bound : (c : goal.Else-minute-gt59) → c.in-Count.days < 2 ^ 42
-bound c =
-    omega (arith, count_bound c.args.date c.days_of.result c.days_of.ensures c.in-Count.days c.in-Count.is)
-
 pub overflow_mul-result : goal.overflow_mul-result
-overflow_mul-result c = record { fits = omega (arith, bound c) }
+overflow_mul-result c = record { fits = omega (arith, count_bound c.args.date c.days_of.result c.days_of.ensures c.in-Count.days c.in-Count.is) }
 
 pub overflow_mul-result-2 : goal.overflow_mul-result-2
 overflow_mul-result-2 c = search (laws, rules)
@@ -46,7 +35,7 @@ pub overflow_cast-result : goal.overflow_cast-result
 overflow_cast-result c = search (laws, rules)
 
 pub overflow_add-result-2 : goal.overflow_add-result-2
-overflow_add-result-2 c = record { fits = omega (arith, bound c) }
+overflow_add-result-2 c = record { fits = omega (arith, count_bound c.args.date c.days_of.result c.days_of.ensures c.in-Count.days c.in-Count.is) }
 
 pub returns : goal.returns
 returns c = search (laws, rules)

@@ -14,12 +14,6 @@ slice_bounds-t-start c = search (laws, rules)
 pub slice_bounds-t-end : goal.slice_bounds-t-end
 slice_bounds-t-end c = search (laws, rules)
 
-pub loop-t-smaller-then-t-lt128 : goal.loop-t-smaller-then-t-lt128
-loop-t-smaller-then-t-lt128 c = search (laws, rules)
-
-pub loop-t-preserved-then-t-lt128 : goal.loop-t-preserved-then-t-lt128
-loop-t-preserved-then-t-lt128 c = search (laws, rules)
-
 pub returns-then-k-eq0 : goal.returns-then-k-eq0
 returns-then-k-eq0 c = search (laws, rules)
 
