@@ -1,5 +1,6 @@
 use Rattle.aspath.proofs.Record.{passed}
 use Rattle.aspath_routes.proofs.Joined.{vec_spoilt, vec_mixed, vec_empty, vec_few, vec_written}
+use mathlib.Core.Path.{◌≡◌}
 use native.Mathlib.Omega.{arith}
 use borrow.Author.Rules.{rules}
 use Rattle.aspath_routes.proofs.to_u32_vec_opt.Goals as goal
@@ -25,7 +26,7 @@ pub returns-then-n-eq0 : goal.returns-then-n-eq0
 returns-then-n-eq0 c = search (laws, rules)
 
 pub returns-then-out-n : goal.returns-then-out-n
-returns-then-out-n c = search (laws, rules, arith)
+returns-then-out-n c = let z : c.count_joined-n.result ≡ 0 → ⊥ = λ e. omega arith in search (laws, rules)
 
 pub write_joined-requires : goal.write_joined-requires
 write_joined-requires c = search (laws, rules)

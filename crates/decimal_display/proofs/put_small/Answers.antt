@@ -1,3 +1,4 @@
+use Prim.Native.Nat.{◌≤◌}
 use native.Mathlib.Omega.{arith}
 use lib.ListN.{length-set}
 use Rattle.decimal_display.proofs.Printed.{one_digit, two_digits, three_digits, four_digits}
@@ -17,7 +18,7 @@ pub shape_of-out-then-n-lt1000 : goal.shape_of-out-then-n-lt1000
 shape_of-out-then-n-lt1000 c = simp length-set at c.put_two-then-n-lt1000.auto.out
 
 pub returns-then-n-lt1000 : goal.returns-then-n-lt1000
-returns-then-n-lt1000 c = search (three_digits, rules, arith)
+returns-then-n-lt1000 c = let h : 100 ≤ c.args.n = omega arith in search (three_digits, rules)
 
 pub returns : goal.returns
 returns c = search (four_digits, rules)
