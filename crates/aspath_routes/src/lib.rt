@@ -152,7 +152,8 @@ pub fn to_u32_vec_opt(
         return U32Vec::Nothing;
     }
     let n = count_joined(kinds, lengths, numbers, segments, count, dedup);
-    if n == 0 {
+    let none = n == 0;
+    if none {
         return U32Vec::Nothing;
     }
     if out.len() < n {

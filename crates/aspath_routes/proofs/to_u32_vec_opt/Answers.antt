@@ -22,8 +22,8 @@ returns-then-not-is_simple c = search (laws, rules)
 pub count_joined-n-requires : goal.count_joined-n-requires
 count_joined-n-requires c = search (laws, rules)
 
-pub returns-then-n-eq0 : goal.returns-then-n-eq0
-returns-then-n-eq0 c = search (laws, rules)
+pub returns-then-none : goal.returns-then-none
+returns-then-none c = search (laws, rules)
 
 pub returns-then-out-n : goal.returns-then-out-n
 returns-then-out-n c = let z : c.count_joined-n.result ≡ 0 → ⊥ = λ e. omega arith in search (laws, rules)
