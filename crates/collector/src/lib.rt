@@ -1,4 +1,4 @@
-// The calls that other languages make: numbers and byte slices alone. State and element cross as bytes of fixed lengths (docs/LAYOUT.md).
+// The calls that collector_c exports to other languages: numbers and byte slices alone. State and element cross as bytes of fixed lengths (docs/LAYOUT.md).
 #![tactic(auto)]
 
 ghost use Rattle.std.specs.Prelude.{◌≡◌, cond, ◌++◌, ◌≤◌, length, take, drop};

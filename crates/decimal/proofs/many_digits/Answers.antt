@@ -1,5 +1,5 @@
 use borrow.Author.Rules.{rules}
-use Rattle.decimal.proofs.Reading.{no_digit, start, at_end_lem, low, high, more, over_tens, over_ones}
+use Rattle.decimal.proofs.Reading.{no_digit, start, at_end_lem, low, high, more, over_ones}
 use Rattle.decimal.proofs.many_digits.Goals as goal
 
 pub returns-then-s-eq0 : goal.returns-then-s-eq0

@@ -1,4 +1,4 @@
-use Rattle.decimal.proofs.Reading.{none32, small32, large32}
+use Rattle.decimal.proofs.Reading.{none32}
 use Rattle.decimal.proofs.read_u32.Goals as goal
 
 pub returns-in_default : goal.returns-in_default

@@ -1,4 +1,4 @@
-use Rattle.decimal.proofs.Reading.{no_text, plus, bare}
+use Rattle.decimal.proofs.Reading.{no_text}
 use Rattle.decimal.proofs.read_u64.Goals as goal
 
 pub returns-then-s-eq0 : goal.returns-then-s-eq0
