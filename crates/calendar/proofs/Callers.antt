@@ -1,28 +1,27 @@
 -- What an answer of `days_of` tells of the date, for its callers. Assumes nothing.
+use Rattle.std.specs.Prelude.{Option, Some, None}
 use mathlib.Core.Path.{◌≡◌, refl, sym, ◌∙◌}
 use mathlib.Core.Bool.{Bool, true, false, cond}
 use Prim.Native.Nat.{ℕ, suc, ◌*◌, ◌<◌}
 use native.Mathlib.Omega.{arith}
 use Rattle.calendar.specs.Calendar.{is_date, days_before, days_of}
 use Rattle.calendar.specs.declared.Date.{Date}
-use Rattle.calendar.specs.declared.Days.{Days}
-use Rattle.calendar.specs.declared.Days.TheVariants.{Count, Nothing}
 use Rattle.calendar.proofs.Years.{year_bound}
 use Rattle.calendar.proofs.Range.{within_year}
 
-module _ (d : Date) (r : Days) (e : r ≡ days_of d) where
-  pub date_none : r ≡ Nothing → is_date d ≡ false
+module _ (d : Date) (r : Option ℕ) (e : r ≡ days_of d) where
+  pub date_none : r ≡ None → is_date d ≡ false
   date_none f = go (is_date d) (sym f ∙ e)
     where
-      go : (b : Bool) → Nothing ≡ cond b (Count (days_before d)) Nothing → b ≡ false
+      go : (b : Bool) → None ≡ cond b (Some (days_before d)) None → b ≡ false
       go true g = let z : ◌≡◌ {A = ℕ} 0 1 = cc in absurd (omega arith)
       go false g = refl
 
-  module _ (n : ℕ) (f : r ≡ Count n) where
+  module _ (n : ℕ) (f : r ≡ Some n) where
     pub date_count : (is_date d ≡ true) × (n ≡ days_before d)
     date_count = go (is_date d) (sym f ∙ e)
       where
-        go : (b : Bool) → Count n ≡ cond b (Count (days_before d)) Nothing → (b ≡ true) × (n ≡ days_before d)
+        go : (b : Bool) → Some n ≡ cond b (Some (days_before d)) None → (b ≡ true) × (n ≡ days_before d)
         go true g = (refl, cc)
         go false g = let z : ◌≡◌ {A = ℕ} 0 1 = cc in absurd (omega arith)
 

@@ -1,10 +1,15 @@
 -- The months make the year, and none is longer than 31 days. Assumes nothing.
-use mathlib.Core.Path.{◌≡◌, refl}
-use mathlib.Core.Bool.{Bool, true, false, cond, ◌||◌}
-use Prim.Native.Nat.{ℕ, zero, suc, ◌*◌, ◌≤◌}
+use mathlib.Core.Path.{◌≡◌, refl, ◌∙◌}
+use mathlib.Core.Bool.{Bool, true, false, cond, ◌&&◌, ◌||◌}
+use Prim.Native.Nat.{ℕ, zero, suc, ◌+◌, ◌*◌, ◌≤◌}
 use native.Mathlib.Omega.{arith}
-use lib.Dec.{eqb, lit≤}
+use mir.Val.{bool_byte}
+use borrow.Author.Tests.{ne_eqb, lt-ltb}
+use mathlib.Core.List.{[], ◌∷◌}
+use lib.Dec.{eqb, ltb, lit≤}
+use lib.ListN.{get_or}
 use Rattle.calendar.specs.Calendar.{is_leap, year_length, month_length, total}
+use Rattle.calendar.proofs.Table.{values, at}
 
 -- the twelve months (and month 0, which is none) make the year
 pub months_make_the_year : (y : ℕ) → total (month_length (is_leap y)) 13 ≡ year_length y
@@ -39,3 +44,24 @@ pub month_bound : (leap : Bool) (m : ℕ) → total (month_length leap) m ≤ 31
 unfolding total
 month_bound leap zero = lit≤ tt
 month_bound leap (suc m) = omega (arith, month_bound leap m, month_short leap m)
+
+-- the days before a month of a leap year: the leap day comes before March
+leap_days : (leap : Bool) (m : ℕ) → total (month_length leap) m ≡ total (month_length false) m + bool_byte (leap && ltb 2 m)
+unfolding total
+leap_days false m = omega arith
+leap_days true zero = refl
+leap_days true (suc zero) = refl
+leap_days true (suc (suc zero)) = refl
+leap_days true (suc (suc (suc zero))) = refl
+leap_days true (suc (suc (suc (suc m)))) =
+    let same : month_length true (suc (suc (suc m))) ≡ month_length false (suc (suc (suc m))) = simp (ne_eqb (suc (suc (suc m))) 2 (λ e. omega arith)) in
+    let before : total (month_length true) (suc (suc (suc m))) ≡ total (month_length false) (suc (suc (suc m))) + 1 =
+    leap_days true (suc (suc (suc m))) ∙ rw (lt-ltb 2 (suc (suc (suc m))) (omega arith)) in
+    rw (lt-ltb 2 (suc (suc (suc (suc m)))) (omega arith)) (omega arith)
+
+-- the table's entry with the leap day
+pub month_table : (leap b : Bool) (m n : ℕ) → m ≤ 12 → b ≡ leap && ltb 2 m → n ≡ bool_byte b
+    → get_or (0 ∷ 0 ∷ 31 ∷ 59 ∷ 90 ∷ 120 ∷ 151 ∷ 181 ∷ 212 ∷ 243 ∷ 273 ∷ 304 ∷ 334 ∷ []) m 0 + n ≡ total (month_length leap) m
+unfolding values total
+month_table leap b m n h e f =
+    rw (f, e) (omega (arith, at (total (month_length false)) 13 m (omega arith), leap_days leap m))

@@ -1,8 +1,6 @@
 -- The Gregorian calendar (01, Dates: Gregorian, UTC, year 0 valid). Days are counted from 0000-01-01.
-use Rattle.std.specs.Prelude.{ℕ, zero, suc, ◌+◌, ◌-◌, ◌*◌, ◌%◌, Bool, cond, not, ◌&&◌, ◌||◌, leb, eqb}
+use Rattle.std.specs.Prelude.{ℕ, zero, suc, ◌+◌, ◌-◌, ◌*◌, ◌%◌, Bool, cond, not, ◌&&◌, ◌||◌, leb, eqb, Option, Some, None}
 use Rattle.calendar.specs.declared.Date.{Date}
-use Rattle.calendar.specs.declared.Days.{Days}
-use Rattle.calendar.specs.declared.Days.TheVariants.{Count, Nothing}
 
 -- every fourth year is a leap year, but of the hundreds only every fourth
 abbrev pub is_leap : ℕ → Bool
@@ -32,8 +30,8 @@ abbrev pub days_before : Date → ℕ
 days_before d = total year_length d.year + total (month_length (is_leap d.year)) d.month + (d.day - 1)
 
 -- the days before the date, where there is such a date
-abbrev pub days_of : Date → Days
-days_of d = cond (is_date d) (Count (days_before d)) Nothing
+abbrev pub days_of : Date → Option ℕ
+days_of d = cond (is_date d) (Some (days_before d)) None
 
 -- 01, Dates: "entry y is 365 times y plus the leap years below y, year 0 being one"
 abbrev pub one : Bool → ℕ

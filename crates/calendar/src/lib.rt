@@ -11,12 +11,6 @@ pub struct Date {
     pub day: u32,
 }
 
-#[derive(Clone, Copy)]
-pub enum Days {
-    Count(u64),
-    Nothing,
-}
-
 // The days before each year of the cycle of 400.
 const DAYS_BEFORE_YEAR: [u64; 400] = [
     0, 366, 731, 1096, 1461, 1827, 2192, 2557, 2922, 3288, 3653, 4018, 4383, 4749, 5114, 5479,
@@ -53,17 +47,13 @@ const DAYS_BEFORE_YEAR: [u64; 400] = [
     145367, 145732,
 ];
 
-// The days before each month of a common year, and of a leap year. There is no month 0.
+// The days before each month of a common year. There is no month 0.
 const DAYS_BEFORE_MONTH: [u64; 13] = [0, 0, 31, 59, 90, 120, 151, 181, 212, 243, 273, 304, 334];
-
-const DAYS_BEFORE_LEAP_MONTH: [u64; 13] = [
-    0, 0, 31, 60, 91, 121, 152, 182, 213, 244, 274, 305, 335,
-];
 
 fn is_leap(y: u32) -> bool
     ensures { result ≡ is_leap y }
 {
-    (y % 4 == 0) & (y % 100 != 0) | (y % 400 == 0)
+    y % 4 == 0 && y % 100 != 0 || y % 400 == 0
 }
 
 fn days_before_in_cycle(y: usize) -> u64
@@ -74,60 +64,42 @@ fn days_before_in_cycle(y: usize) -> u64
 }
 
 // A cycle of 400 years has 146097 days.
+#[tactic(auto, using(crate::proofs::Years::by_table, crate::proofs::Years::year_bound))]
 fn days_before_year(y: u32) -> u64
     ensures { result ≡ total year_length y }
 {
-    (y / 400) as u64 * 146097 + days_before_in_cycle((y % 400) as usize)
+    u64::from(y / 400) * 146097 + days_before_in_cycle((y % 400) as usize)
 }
 
 fn month_length(leap: bool, m: u32) -> u32
     ensures { result ≡ month_length leap m }
 {
-    if m == 0 {
-        return 0;
+    match m {
+        0 => 0,
+        2 if leap => 29,
+        2 => 28,
+        4 | 6 | 9 | 11 => 30,
+        _ => 31,
     }
-    if m == 2 {
-        if leap {
-            return 29;
-        }
-        return 28;
-    }
-    if (m == 4) | (m == 6) | (m == 9) | (m == 11) {
-        return 30;
-    }
-    31
 }
 
+// The leap day lies before each month from March on.
 fn days_before_month(leap: bool, m: u32) -> u64
     requires { m ≤ 12 }
     ensures { result ≡ total (month_length leap) m }
 {
-    if leap {
-        DAYS_BEFORE_LEAP_MONTH[m as usize]
-    } else {
-        DAYS_BEFORE_MONTH[m as usize]
-    }
+    DAYS_BEFORE_MONTH[m as usize] + u64::from(leap && 2 < m)
 }
 
 // The days before the date; Nothing where there is no such date.
-pub fn days_of(date: Date) -> Days
+#[tactic(auto, using(crate::proofs::Years::year_bound, crate::proofs::Months::month_bound))]
+pub fn days_of(date: Date) -> Option<u64>
     ensures { result ≡ days_of date }
 {
-    let y = date.year;
-    let m = date.month;
-    let d = date.day;
-    if m < 1 {
-        return Days::Nothing;
+    let Date { year, month, day } = date;
+    let leap = is_leap(year);
+    if !(1..=12).contains(&month) || day < 1 || month_length(leap, month) < day {
+        return None;
     }
-    if 12 < m {
-        return Days::Nothing;
-    }
-    if d < 1 {
-        return Days::Nothing;
-    }
-    let leap = is_leap(y);
-    if month_length(leap, m) < d {
-        return Days::Nothing;
-    }
-    Days::Count(days_before_year(y) + days_before_month(leap, m) + (d - 1) as u64)
+    Some(days_before_year(year) + days_before_month(leap, month) + u64::from(day - 1))
 }

@@ -4,26 +4,31 @@
 // tab, and the answer that is right. A question is the name of its group and its arguments, parted by
 // one space; byte strings are in hexadecimal, '-' for none. The cases of a group stand together.
 //
-// A program reads its list into an array, and for each line puts its own answer into a buffer
-// (`put`, `put_hex`, `put_decimal`) and has it counted (`count`); see `text_vectors`.
+// A program says what it answers to a line (`Program`), and `run` holds its answers to the list; see
+// `text_vectors`.
 #![tactic(auto)]
 
-ghost use Rattle.std.specs.Prelude.{◌≡◌, ◌<◌, length, IfOk};
+ghost use Rattle.std.specs.Prelude.{◌≡◌, ◌<◌, ◌==◌, cond, codes, length, position, IfOk};
 ghost use Rattle.std.specs.Io.{ReadsAtMost};
-ghost use Rattle.scan.specs.Lists.{end_while};
 ghost use Rattle.scan.specs.Search.{equal};
-ghost use Rattle.cases.specs.Cases.{part_of, not_tab, answer_of, counted};
+ghost use Rattle.cases.specs.Cases.{part_of, float_of, answer_of, counted};
 
 use std::fs::File;
-use std::io;
-use std::io::Read;
+use std::io::{Cursor, Read};
 use std::rt::Files;
+use std::{fmt, io};
+
+// The most bytes of a list.
+pub const LIST: usize = 2097152;
+
+// The most bytes of an answer.
+const ANSWER: usize = 65536;
 
 // Room for a list of cases.
-pub fn list_buffer() -> [u8; 2097152]
-    ensures { 2097152 ≡ length result }
+pub fn list_buffer() -> [u8; LIST]
+    ensures { LIST ≡ length result }
 {
-    [0; 2097152]
+    [0; LIST]
 }
 
 // Reads until the bytes are full or the input ends: how many bytes.
@@ -31,6 +36,7 @@ fn read_full<R: Read>(input: &mut R, out: &mut [u8]) -> io::Result<usize>
     ensures { ReadsAtMost result out.new }
 {
     let mut n = 0;
+    // Stays a while: each read gives as many bytes as it likes, which no range says.
     while n < out.len() {
         let got = input.read(&mut out[n..])?;
         if got == 0 {
@@ -50,7 +56,7 @@ pub fn read_file<R: Files>(rt: &R, name: &str, out: &mut [u8]) -> io::Result<usi
 }
 
 // Reads the list, the file cases.txt, into an array of 2 MiB: how many bytes.
-pub fn load<R: Files>(rt: &R, list: &mut [u8; 2097152]) -> io::Result<usize>
+pub fn load<R: Files>(rt: &R, list: &mut [u8; LIST]) -> io::Result<usize>
     ensures { ReadsAtMost result list.new }
 {
     read_file(rt, "cases.txt", list)
@@ -60,13 +66,10 @@ pub fn load<R: Files>(rt: &R, list: &mut [u8; 2097152]) -> io::Result<usize>
 pub fn part(s: &[u8], a: usize, e: usize) -> &[u8]
     ensures { result.now ≡ part_of s.now a e }
 {
-    if e < a {
-        return &s[..0];
+    match s.get(a..e) {
+        Some(part) => part,
+        None => &[],
     }
-    if s.len() < e {
-        return &s[..0];
-    }
-    &s[a..e]
 }
 
 // Where the next line starts: further on, as long as there is one.
@@ -78,92 +81,56 @@ pub fn after(list: &[u8], at: usize) -> usize
 
 // The line that starts at `at`, its line feed left out.
 pub fn line(list: &[u8], at: usize) -> &[u8] {
-    let e = scan::line_end(list, at);
-    if e == 0 {
-        return part(list, 0, 0);
-    }
-    if list.len() < e {
-        return part(list, 0, 0);
-    }
-    if list[e - 1] == b'\n' {
-        return part(list, at, e - 1);
-    }
-    part(list, at, e)
+    let line = part(list, at, scan::line_end(list, at));
+    line.strip_suffix(b"\n").unwrap_or(line)
 }
 
 fn is_case(line: &[u8]) -> bool {
-    if line.len() == 0 {
-        return false;
-    }
-    line[0] != b'#'
-}
-
-fn parts(b: u8) -> bool {
-    (b == b' ') | (b == b'\t')
-}
-
-fn field_start(line: &[u8], n: usize) -> usize {
-    let mut left = n;
-    let mut i = 0;
-    while i < line.len() {
-        if left == 0 {
-            return i;
-        }
-        if parts(line[i]) {
-            left -= 1;
-        }
-        i += 1;
-    }
-    i
-}
-
-fn field_end(line: &[u8], at: usize) -> usize {
-    let mut i = at;
-    while i < line.len() {
-        if parts(line[i]) {
-            return i;
-        }
-        i += 1;
-    }
-    i
+    !matches!(line, [] | [b'#', ..])
 }
 
 // The n-th field of a line, from 0 on, which is the group's name; fields are parted by a space or a tab.
 pub fn field(line: &[u8], n: usize) -> &[u8] {
-    let a = field_start(line, n);
-    part(line, a, field_end(line, a))
+    line.split(|b| matches!(*b, b' ' | b'\t'))
+        .nth(n)
+        .unwrap_or(&[])
 }
 
 // The n-th field as a decimal number, 0 where it is none.
 pub fn number(line: &[u8], n: usize) -> usize {
-    let decimal::U64Read::Number(v) = decimal::read_u64(field(line, n)) else {
+    let Some(v) = decimal::read_u64(field(line, n)) else {
         return 0;
     };
     v as usize
 }
 
-fn tab_at(line: &[u8]) -> usize
-    ensures { result ≡ end_while not_tab line.now 0 }
+fn tab_at(line: &[u8]) -> Option<usize>
+    ensures { result ≡ position (λ b. b == 9) line.now }
 {
-    let mut i = 0;
-    while i < line.len() {
-        if line[i] == b'\t' {
-            return i;
-        }
-        i += 1;
+    line.iter().position(|b| *b == b'\t')
+}
+
+// The float whose bits these are, or none for those of a NaN.
+#[tactic(auto, using(crate::proofs::CaseLaws::of_number))]
+pub fn float(bits: u64) -> Option<f64>
+    ensures { result ≡ float_of bits }
+{
+    let nan = bits % 0x8000_0000_0000_0000 > 0x7ff0_0000_0000_0000;
+    if nan {
+        None
+    } else {
+        Some(f64::from_bits(bits))
     }
-    i
 }
 
 // Whether the case's answer is `got`.
+#[tactic(auto, using(crate::proofs::CaseLaws::answer_there, crate::proofs::CaseLaws::answer_none))]
 pub fn agrees(line: &[u8], got: &[u8]) -> bool
     ensures { result ≡ equal (answer_of line.now) got.now }
 {
-    let tab = tab_at(line);
-    if tab < line.len() {
-        scan::same(&line[tab + 1..], got)
-    } else {
-        got.len() == 0
+    match tab_at(line) {
+        Some(tab) => scan::same(&line[tab + 1..], got),
+        None => got.len() == 0,
     }
 }
 
@@ -171,99 +138,92 @@ fn value(b: u8) -> u8
     ensures { result < 16 }
 {
     match b {
-        48..=57 => b - 48,
-        97..=102 => b - 87,
+        b'0'..=b'9' => b - b'0',
+        b'a'..=b'f' => b - b'a' + 10,
         _ => 0,
     }
 }
 
 // The bytes that the hexadecimal s says, put into out: how many.
 pub fn hex(s: &[u8], out: &mut [u8]) -> usize {
-    let mut i = 0;
-    let mut n = 0;
-    while n < out.len() {
-        if s.len() < 2 {
-            return n;
-        }
-        if s.len() - 2 < i {
-            return n;
-        }
-        out[n] = value(s[i]) * 16 + value(s[i + 1]);
-        n += 1;
-        i += 2;
+    let (pairs, _) = s.as_chunks::<2>();
+    let n = pairs.len().min(out.len());
+    for (place, [high, low]) in out.iter_mut().zip(pairs) {
+        *place = value(*high) * 16 + value(*low);
     }
     n
+}
+
+// Bytes in hexadecimal, '-' for none.
+#[derive(Clone, Copy)]
+pub struct InHex<'a>(pub &'a [u8]);
+
+impl fmt::Display for InHex<'_> {
+    fn fmt<W: fmt::Write>(&self, f: &mut fmt::Formatter<W>) -> fmt::Result {
+        if self.0.is_empty() {
+            return write!(f, "-");
+        }
+        for b in self.0 {
+            write!(f, "{b:02x}")?;
+        }
+        Ok(())
+    }
 }
 
 // s put into out from `at` on, as far as there is room: where it ends.
 pub fn put(out: &mut [u8], at: usize, s: &[u8]) -> usize {
-    let mut n = at;
-    let mut i = 0;
-    while i < s.len() {
-        if out.len() <= n {
-            return n;
-        }
-        out[n] = s[i];
-        n += 1;
-        i += 1;
+    if out.len() <= at {
+        return at;
     }
-    n
-}
-
-fn digit(n: u8) -> u8 {
-    if n < 10 {
-        n + 48
-    } else {
-        if n < 16 { n + 87 } else { b'?' }
-    }
+    let n = s.len().min(out.len() - at);
+    out[at..at + n].copy_from_slice(&s[..n]);
+    at + n
 }
 
 // The same for s in hexadecimal, '-' for no bytes.
 pub fn put_hex(out: &mut [u8], at: usize, s: &[u8]) -> usize {
-    if s.len() == 0 {
+    const DIGITS: [u8; 16] = *b"0123456789abcdef";
+    if s.is_empty() {
         return put(out, at, b"-");
     }
     let mut n = at;
-    let mut i = 0;
-    while i < s.len() {
-        let pair = [digit(s[i] / 16), digit(s[i] % 16)];
+    for b in s {
+        let pair = [DIGITS[usize::from(*b / 16)], DIGITS[usize::from(*b % 16)]];
         n = put(out, n, &pair);
-        i += 1;
     }
     n
 }
 
 // n in decimal.
 pub fn put_decimal(out: &mut [u8], at: usize, n: u64) -> usize {
-    let mut digits = [0; 20];
-    let k = decimal_display::write_u64(n, &mut digits, 0);
-    put(out, at, part(&digits, 0, k))
+    decimal_display::write_u64(n, out, at)
 }
 
 // What all places of a lent list hold, each in decimal behind the mark.
 pub fn put_places(out: &mut [u8], at: usize, mark: &[u8], places: &[u32]) -> usize {
     let mut k = at;
-    let mut i = 0;
-    while i < places.len() {
+    for place in places {
         k = put(out, k, mark);
-        k = decimal_display::write_u32(places[i], out, k);
-        i += 1;
+        k = decimal_display::write_u32(*place, out, k);
     }
     k
 }
 
 // The first n places of a list, all where there are fewer.
 pub fn first_places(s: &mut [u32], n: usize) -> &mut [u32] {
-    if s.len() < n { s } else { &mut s[..n] }
+    let n = n.min(s.len());
+    &mut s[..n]
 }
 
 // `yes` or `no`.
+pub fn yes_no(yes: bool) -> &'static str
+    ensures { result.now ≡ cond yes (codes "yes") (codes "no") }
+{
+    if yes { "yes" } else { "no" }
+}
+
 pub fn put_yes_no(out: &mut [u8], at: usize, yes: bool) -> usize {
-    if yes {
-        put(out, at, b"yes")
-    } else {
-        put(out, at, b"no")
-    }
+    put(out, at, yes_no(yes).as_bytes())
 }
 
 // What is counted of the group at hand, one of whose lines starts at `line`.
@@ -282,24 +242,13 @@ pub fn start() -> Tally {
     }
 }
 
-// n in decimal, printed.
-pub fn print_decimal(rt: &impl Print, n: u64) -> io::Result<()> {
-    let mut digits = [0; 20];
-    let k = decimal_display::write_u64(n, &mut digits, 0);
-    rt.write_all(part(&digits, 0, k))
-}
-
 // Prints the group's line, where it has cases.
 pub fn report(rt: &impl Print, t: Tally, list: &[u8]) -> io::Result<()> {
     if t.cases == 0 {
         return Ok(());
     }
     rt.write_all(field(line(list, t.line), 0))?;
-    rt.write_all(b": ")?;
-    print_decimal(rt, t.cases)?;
-    rt.write_all(b" cases, ")?;
-    print_decimal(rt, t.mismatches)?;
-    rt.write_all(b" mismatches\n")
+    println!(rt; ": {} cases, {} mismatches", t.cases, t.mismatches)
 }
 
 fn print_mismatch(rt: &impl Print, line: &[u8], got: &[u8]) -> io::Result<()> {
@@ -312,15 +261,13 @@ fn print_mismatch(rt: &impl Print, line: &[u8], got: &[u8]) -> io::Result<()> {
 
 // The group at hand is printed where the case begins another.
 fn group(rt: &impl Print, t: Tally, list: &[u8], at: usize) -> io::Result<Tally> {
-    let old = t.line;
-    if scan::same(field(line(list, old), 0), field(line(list, at), 0)) {
+    if field(line(list, t.line), 0) == field(line(list, at), 0) {
         return Ok(t);
     }
     report(rt, t, list)?;
     Ok(Tally {
         line: at,
-        cases: 0,
-        mismatches: 0,
+        ..start()
     })
 }
 
@@ -330,17 +277,13 @@ fn judged(rt: &impl Print, t: Tally, case: &[u8], got: &[u8]) -> io::Result<Tall
 {
     let cases = t.cases.wrapping_add(1);
     if agrees(case, got) {
-        return Ok(Tally {
-            line: t.line,
-            cases,
-            mismatches: t.mismatches,
-        });
+        return Ok(Tally { cases, ..t });
     }
     print_mismatch(rt, case, got)?;
     Ok(Tally {
-        line: t.line,
         cases,
         mismatches: t.mismatches.wrapping_add(1),
+        ..t
     })
 }
 
@@ -352,4 +295,47 @@ pub fn count(rt: &impl Print, t: Tally, list: &[u8], at: usize, got: &[u8]) -> i
     } else {
         Ok(t)
     }
+}
+
+// Where a program writes its answer.
+pub type Answer<'a> = Cursor<&'a mut [u8]>;
+
+// What a test program answers to a line of its list.
+pub trait Program {
+    fn answer(&self, line: &[u8], out: &mut Answer) -> io::Result<()>;
+}
+
+// The program's answer to a line, judged.
+fn answered<P: Program>(
+    rt: &impl Print,
+    program: &P,
+    t: Tally,
+    case: &[u8],
+    out: &mut [u8],
+) -> io::Result<Tally> {
+    let mut answer = Cursor::new(&mut *out);
+    program.answer(case, &mut answer)?;
+    let n = answer.position() as usize;
+    judged(rt, t, case, part(out, 0, n))
+}
+
+// Holds the program's answers to the list in a file, and prints a line for each group.
+pub fn run<R: Files + Print, P: Program>(rt: &R, file: &str, program: &P) -> io::Result<()> {
+    let mut list = list_buffer();
+    let n = read_file(rt, file, &mut list)?;
+    let mut out = [0; ANSWER];
+    let mut name: &[u8] = &[];
+    let mut t = start();
+    for case in list[..n].split(|b| *b == b'\n') {
+        if !is_case(case) {
+            continue;
+        }
+        if field(case, 0) != name {
+            report(rt, t, name)?;
+            name = field(case, 0);
+            t = start();
+        }
+        t = answered(rt, program, t, case, &mut out)?;
+    }
+    report(rt, t, name)
 }

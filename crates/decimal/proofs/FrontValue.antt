@@ -1,9 +1,9 @@
 -- What the digits at the front of a word's bytes make, computed from all of them at once. Assumes nothing.
+use Rattle.std.specs.Prelude.{Some}
 use Prim.Native.Nat.{ℕ, zero, suc, ◌+◌, ◌-◌, ◌*◌, ◌/◌, ◌%◌, ◌^◌, ◌≤◌, ◌<◌}
 use mathlib.Core.Path.{◌≡◌, refl, sym, ap, ap₂, ◌∙◌}
 use mathlib.Core.Bool.{true}
 use mathlib.Core.List.{List, [], ◌∷◌, ◌++◌, map, map-append, append-nil}
-use mathlib.Core.Option.{some}
 use native.Mathlib.Omega.{arith}
 use mir.Syntax.{w32, w64}
 use mir.Val.{Fits}
@@ -94,14 +94,14 @@ bare_digit b e =
     rw z at (eqb-true (bare (48 + (b - 48))) (b - 48) (all_below_lem 10 (λ d. eqb (bare (48 + d)) d) refl (b - 48) (omega arith)))
 
 -- digits without them
-bare_placed : (v n : ℕ) (d : List ℕ) → behind v d ≡ some n → placed v (map bare d) ≡ n
+bare_placed : (v n : ℕ) (d : List ℕ) → behind v d ≡ Some n → placed v (map bare d) ≡ n
 unfolding behind placed
 bare_placed v n [] e = cc
 bare_placed v n (b ∷ d) e =
-    let f : (is_digit b ≡ true) × (behind (v * 10 + (b - 48)) d ≡ some n) = behind_cons v b n d e in
+    let f : (is_digit b ≡ true) × (behind (v * 10 + (b - 48)) d ≡ Some n) = behind_cons v b n d e in
     rw (bare_digit b f.0) (bare_placed (v * 10 + (b - 48)) n d f.1)
 
-bare_small : (v n : ℕ) (d : List ℕ) → behind v d ≡ some n → Small (map bare d)
+bare_small : (v n : ℕ) (d : List ℕ) → behind v d ≡ Some n → Small (map bare d)
 bare_small v n [] e i = omega arith
 bare_small v n (b ∷ d) e zero =
     let f : is_digit b ≡ true = (behind_cons v b n d e).0 in

@@ -1,12 +1,5 @@
 -- Decimal numbers in text (01, Text, numbers, addresses): an optional '+', at least one digit, no overflow; leading zeros allowed.
-use Rattle.std.specs.Prelude.{ℕ, ◌+◌, ◌-◌, ◌*◌, ◌^◌, List, [], ◌∷◌, Bool, cond, ◌&&◌, length, drop, ltb, leb, eqb}
-use Rattle.std.proofs.Math.Option.{Option, some, none}
-use Rattle.decimal.specs.declared.U32Read.{U32Read}
-use Rattle.decimal.specs.declared.U32Read.TheVariants.{Number as Number32, Nothing as Nothing32}
-use Rattle.decimal.specs.declared.U64Read.{U64Read}
-use Rattle.decimal.specs.declared.U64Read.TheVariants.{Number as Number64, Nothing as Nothing64}
-use Rattle.decimal.specs.declared.DigitsRead.{DigitsRead}
-use Rattle.decimal.specs.declared.DigitsRead.TheVariants.{Digits, Many}
+use Rattle.std.specs.Prelude.{ℕ, ◌+◌, ◌-◌, ◌*◌, ◌^◌, List, [], ◌∷◌, Bool, cond, ◌&&◌, length, drop, ltb, leb, eqb, Option, Some, None}
 use Rattle.decimal.specs.declared.FirstDigits.{FirstDigits}
 use Rattle.word.specs.Word.{little_endian}
 
@@ -16,42 +9,34 @@ is_digit b = leb 48 b && leb b 57
 
 -- the number that the digits s make when they are written behind those of v; none where a byte of s is no digit
 unfoldable pub behind : ℕ → List ℕ → Option ℕ
-behind v [] = some v
-behind v (b ∷ s) = let r = behind (v * 10 + (b - 48)) s in cond (is_digit b) r none
+behind v [] = Some v
+behind v (b ∷ s) = let r = behind (v * 10 + (b - 48)) s in cond (is_digit b) r None
 
 -- at least one digit: the number, however large
 unfoldable pub digits : List ℕ → Option ℕ
-digits [] = none
+digits [] = None
 digits (b ∷ s) = behind 0 (b ∷ s)
 
 -- an optional '+' in front
 unfoldable pub unsigned : List ℕ → Option ℕ
-unsigned [] = none
+unsigned [] = None
 unsigned (b ∷ s) = cond (eqb b 43) (digits s) (digits (b ∷ s))
 
 -- no overflow: only a number below k
 abbrev pub below : ℕ → Option ℕ → Option ℕ
-below k (some n) = cond (ltb n k) (some n) none
-below k none = none
-
-abbrev pub as32 : Option ℕ → U32Read
-as32 (some n) = Number32 n
-as32 none = Nothing32
-
-abbrev pub as64 : Option ℕ → U64Read
-as64 (some n) = Number64 n
-as64 none = Nothing64
+below k (Some n) = cond (ltb n k) (Some n) None
+below k None = None
 
 -- digits alone, read as a u64
-abbrev pub read_digits : List ℕ → U64Read
-read_digits s = as64 (below (2 ^ 64) (digits s))
+abbrev pub read_digits : List ℕ → Option ℕ
+read_digits s = below (2 ^ 64) (digits s)
 
 -- the text read as a u32, and as a u64
-abbrev pub read_u32 : List ℕ → U32Read
-read_u32 s = as32 (below (2 ^ 32) (unsigned s))
+abbrev pub read_u32 : List ℕ → Option ℕ
+read_u32 s = below (2 ^ 32) (unsigned s)
 
-abbrev pub read_u64 : List ℕ → U64Read
-read_u64 s = as64 (below (2 ^ 64) (unsigned s))
+abbrev pub read_u64 : List ℕ → Option ℕ
+read_u64 s = below (2 ^ 64) (unsigned s)
 
 -- the digits at the front, for texts that are read up to where their digits end
 unfoldable pub leading : List ℕ → List ℕ
@@ -59,12 +44,12 @@ leading [] = []
 leading (b ∷ s) = let r = leading s in cond (is_digit b) (b ∷ r) []
 
 abbrev pub or_zero : Option ℕ → ℕ
-or_zero (some n) = n
-or_zero none = 0
+or_zero (Some n) = n
+or_zero None = 0
 
 -- those from the place i on, where they are at most nine: what they make (0 where there are none), and the place behind them
-unfoldable pub digits_at : List ℕ → ℕ → DigitsRead
-digits_at s i = let d = leading (drop i s) in cond (leb (length d) 9) (Digits (or_zero (behind 0 d)) (i + length d)) Many
+unfoldable pub digits_at : List ℕ → ℕ → Option (ℕ × ℕ)
+digits_at s i = let d = leading (drop i s) in cond {A = Option (ℕ × ℕ)} (leb (length d) 9) (Some (or_zero (behind 0 d), i + length d)) None
 
 -- those of a word's eight bytes: how many, and what they make
 unfoldable pub first_digits : ℕ → FirstDigits

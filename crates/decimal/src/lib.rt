@@ -1,146 +1,86 @@
 // Decimal numbers, read as 01 says.
 #![tactic(auto)]
 
-ghost use Rattle.std.specs.Prelude.{◌≡◌, map, ℕ, ◌≤◌, ◌<◌, length, get_or};
+ghost use Rattle.std.specs.Prelude.{◌≡◌, map, ℕ, ◌+◌, ◌*◌, ◌^◌, ◌≤◌, ◌<◌, length, get_or, SomeIff};
 ghost use Rattle.word.specs.Word.{number, little_endian};
 ghost use Rattle.decimal.specs.Decimal.{read_digits, read_u32, read_u64, behind, leading, or_zero, digits_at, first_digits, mark, placed};
 
-#[derive(Clone, Copy)]
-pub enum U32Read {
-    Number(u32),
-    Nothing,
+// So many digits make no number that overflows.
+const DIGITS_THAT_FIT: usize = 19;
+
+// A number of v's digits and one more; None where it overflows.
+fn with_digit(v: u64, digit: u64) -> Option<u64>
+    ensures { SomeIff result (v * 10 + digit < 2 ^ 64) (v * 10 + digit) }
+{
+    v.checked_mul(10)?.checked_add(digit)
 }
 
-#[derive(Clone, Copy)]
-pub enum U64Read {
-    Number(u64),
-    Nothing,
-}
-
-// At least one digit and at most 19: no number of these overflows, so the loop tests the digits alone.
-fn few_digits(s: &[u8]) -> U64Read
-    requires { length s.now ≤ 19 }
+// A number with no sign. Only the digits behind those that surely fit are tested for overflow.
+pub fn read_digits(s: &[u8]) -> Option<u64>
     ensures { result ≡ read_digits s.now }
 {
-    if s.len() == 0 {
-        return U64Read::Nothing;
+    if s.is_empty() {
+        return None;
     }
-    let mut i = 0;
-    let mut v: u64 = 0;
-    while i < s.len() {
-        let b = s[i];
-        if b < b'0' {
-            return U64Read::Nothing;
+    let mut v = 0;
+    for (i, b) in s.iter().enumerate() {
+        if !b.is_ascii_digit() {
+            return None;
         }
-        if b'9' < b {
-            return U64Read::Nothing;
+        let digit = u64::from(*b - b'0');
+        if i < DIGITS_THAT_FIT {
+            v = v * 10 + digit;
+        } else {
+            let Some(next) = with_digit(v, digit) else {
+                return None;
+            };
+            v = next;
         }
-        v = v * 10 + ((b as u64) - 48);
-        i += 1;
     }
-    U64Read::Number(v)
+    Some(v)
 }
 
-// Any number of digits, with a test for overflow at each.
-#[tactic(auto, using(crate::proofs::Reading::over_tens))]
-fn many_digits(s: &[u8]) -> U64Read
-    ensures { result ≡ read_digits s.now }
-{
-    if s.len() == 0 {
-        return U64Read::Nothing;
-    }
-    let mut i = 0;
-    let mut v: u64 = 0;
-    while i < s.len() {
-        let b = s[i];
-        if b < b'0' {
-            return U64Read::Nothing;
-        }
-        if b'9' < b {
-            return U64Read::Nothing;
-        }
-        let d = (b as u64) - 48;
-        if 1844674407370955161 < v {
-            return U64Read::Nothing;
-        }
-        let t = v * 10;
-        if 18446744073709551615 - t < d {
-            return U64Read::Nothing;
-        }
-        v = t + d;
-        i += 1;
-    }
-    U64Read::Number(v)
-}
-
-// A number with no sign.
-pub fn read_digits(s: &[u8]) -> U64Read
-    ensures { result ≡ read_digits s.now }
-{
-    if s.len() <= 19 {
-        few_digits(s)
-    } else {
-        many_digits(s)
-    }
-}
-
-#[tactic(auto, using(crate::proofs::Reading::plus, crate::proofs::Reading::bare))]
-pub fn read_u64(s: &[u8]) -> U64Read
+pub fn read_u64(s: &[u8]) -> Option<u64>
     ensures { result ≡ read_u64 s.now }
 {
-    if s.len() == 0 {
-        return U64Read::Nothing;
-    }
-    if s[0] == b'+' {
-        read_digits(&s[1..])
-    } else {
-        read_digits(s)
+    match s.strip_prefix(b"+") {
+        Some(digits) => read_digits(digits),
+        None => read_digits(s),
     }
 }
 
-#[tactic(auto, using(crate::proofs::Reading::small32, crate::proofs::Reading::large32))]
-pub fn read_u32(s: &[u8]) -> U32Read
+#[tactic(auto, using(crate::proofs::Reading::none32, crate::proofs::Reading::small32, crate::proofs::Reading::large32))]
+pub fn read_u32(s: &[u8]) -> Option<u32>
     ensures { result ≡ read_u32 s.now }
 {
-    let U64Read::Number(n) = read_u64(s) else {
-        return U32Read::Nothing;
+    let Some(n) = read_u64(s) else {
+        return None;
     };
-    if n < 4294967296 {
-        U32Read::Number(n as u32)
-    } else {
-        U32Read::Nothing
+    match u32::try_from(n) {
+        Ok(n) => Some(n),
+        Err(_) => None,
     }
 }
 
 // What some digits make, and the place behind them.
-#[derive(Clone, Copy)]
-pub enum DigitsRead {
-    Digits(u32, usize),
-    Many,
-}
-
-// The digits from `at` on, where they are at most nine: none of these numbers is too large, so a text can be read up to where its digits end.
+// The digits from `at` on, where they are at most nine: none of these numbers is too large, so a
+// text can be read up to where its digits end.
 #[tactic(auto, using(crate::proofs::Leading::run_many))]
-pub fn digits_at(s: &[u8], at: usize) -> DigitsRead
+pub fn digits_at(s: &[u8], at: usize) -> Option<(u32, usize)>
     ensures { result ≡ digits_at s.now at }
 {
-    let mut i = at;
-    let mut v: u32 = 0;
-    while i < s.len() {
+    let mut v = 0;
+    for i in at..s.len() {
         let b = s[i];
-        if b < b'0' {
-            return DigitsRead::Digits(v, i);
-        }
-        if b'9' < b {
-            return DigitsRead::Digits(v, i);
+        if !b.is_ascii_digit() {
+            return Some((v, i));
         }
         if 9 <= i - at {
-            return DigitsRead::Many;
+            return None;
         }
-        v = v * 10 + (b as u32 - 48);
-        i += 1;
+        v = v * 10 + u32::from(b - b'0');
     }
-    DigitsRead::Digits(v, i)
+    Some((v, at.max(s.len())))
 }
 
 // The highest bit of each byte of a word that is no digit. With the bits of '0' taken out a digit is 0 to 9, and with 118 more the other

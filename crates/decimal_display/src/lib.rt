@@ -5,6 +5,8 @@ ghost use Rattle.std.specs.Prelude.{◌≡◌, ◌+◌, ◌≤◌, ◌<◌, leng
 ghost use Rattle.decimal_display.specs.Printed.{decimal, two, four, difference};
 ghost use Rattle.output.specs.Output.{Written, front, answer};
 
+use output::PutError;
+
 // How many digits n has. The powers do not depend on n: the loop unrolls to comparisons.
 pub fn decimal_len(n: u64) -> usize
     ensures { (result ≡ length (decimal n)) × (result ≤ 20) }
@@ -159,16 +161,16 @@ pub fn difference_len(a: u64, b: u64) -> usize
     }
 }
 
-pub fn put_u64(n: u64, out: &mut [u8]) -> output::Put
+pub fn put_u64(n: u64, out: &mut [u8]) -> Result<usize, PutError>
     ensures { (result ≡ answer (decimal n) out.old) × (out.new ≡ front (decimal n) out.old) }
 {
     if out.len() < decimal_len(n) {
-        return output::Put::TooShort;
+        return Err(PutError::TooShort);
     }
-    output::Put::Wrote(write_u64(n, out, 0))
+    Ok(write_u64(n, out, 0))
 }
 
-pub fn put_u32(n: u32, out: &mut [u8]) -> output::Put
+pub fn put_u32(n: u32, out: &mut [u8]) -> Result<usize, PutError>
     ensures { (result ≡ answer (decimal n) out.old) × (out.new ≡ front (decimal n) out.old) }
 {
     put_u64(n as u64, out)

@@ -36,21 +36,15 @@ pub fn line_at(input: &[u8], at: usize, ended: bool) -> Front
     Front::Starved
 }
 
-// Moves the bytes from..end to the front, for more input to come behind them: how many they are.
+// Moves the bytes from..end to the front, for more input to come after them: how many they are.
+#[tactic(auto, unfolding(crate::specs::Input::kept, crate::specs::Input::kept_length))]
 pub fn keep(bytes: &mut [u8], from: usize, end: usize) -> usize
     ensures { (result ≡ kept_length from end bytes.old) × (bytes.new ≡ kept from end bytes.old) }
 {
-    if end < from {
-        return 0;
+    if from <= end && end <= bytes.len() {
+        bytes.copy_within(from..end, 0);
+        end - from
+    } else {
+        0
     }
-    if bytes.len() < end {
-        return 0;
-    }
-    let n = end - from;
-    let mut i = 0;
-    while i < n {
-        bytes[i] = bytes[from + i];
-        i += 1;
-    }
-    n
 }

@@ -1,20 +1,19 @@
 -- Laws of text written into a lent list.
+use Rattle.std.specs.Prelude.{Ok, Err}
 use mathlib.Core.Path.{◌≡◌, refl, sym, ap, ◌∙◌}
 use mathlib.Core.List.{List, [], ◌∷◌, ◌++◌, append_assoc, append-nil}
 use mathlib.Core.Bool.{Bool, true, false, cond}
-use Prim.Native.Nat.{ℕ, suc, ◌+◌, ◌-◌, ◌*◌, ◌/◌, ◌%◌, ◌^◌, ◌≤◌, ◌<◌, min}
+use Prim.Native.Nat.{ℕ, suc, ◌+◌, ◌-◌, ◌≤◌, ◌<◌, min}
 use native.Mathlib.Nat.{zero-add, add-zero, add_assoc, min-eq_left}
-use native.Mathlib.Numerals.{add-one, add-two, add-three}
+use native.Mathlib.Numerals.{add-one}
 use native.Mathlib.Omega.{arith}
-use lib.ListN.{length, get_or, take, drop, set, drop_of_length-le, length-append, length-take, length-drop}
-use lib.Seq.{sets, sets-eq, paste, paste-zero, paste-suc, length-paste, take-paste, drop-paste, drop-cons, drop-drop, drop-append-add, take-add, take-append-add, take-append-le, take_all, take-length, take-take, length-take-le, set_split, append_snoc}
-use lib.Pow.{pow_mono}
+use lib.ListN.{length, take, drop, set, drop_of_length-le, length-append, length-take, length-drop}
+use lib.Seq.{paste, paste-zero, length-paste, take-paste, drop-paste, drop-drop, drop-append-add, take-append-add, take-append-le, take_all, take-length, set_split, append_snoc}
+use borrow.Rule.Slice.PartMut.{put_mid}
 use lib.Dec.{leb}
 use borrow.Author.Tests.{le-leb, lt-leb, leb-true, leb-false}
-use Rattle.word.specs.Word.{bytes, little_endian, number}
-use Rattle.word.proofs.Laws.{length_bytes, eight, four, Bytes, take_bytes, drop_bytes, bytes_back, number_bound}
 use Rattle.output.specs.Output.{room, overwrite, Written, front, answer}
-use Rattle.output.specs.declared.Put.TheVariants.{Wrote, TooShort}
+use Rattle.output.specs.declared.PutError.TheVariants.{TooShort}
 
 -- a text has room as far as the list reaches, and no longer than it is
 pub room_short : (out : List ℕ) (at : ℕ) (t : List ℕ) → length out ≤ at → room out at t ≡ 0
@@ -157,103 +156,13 @@ byte_written b out at h =
       place = omega (arith, room_all out at (b ∷ []) (omega arith));
     }
 
--- one more byte copied
-pub copied : (t out new : List ℕ) (at n i : ℕ) → n ≤ length t → n ≤ length out - at → new ≡ paste out at t i → i < n
-    → set new (at + i) (get_or t i 0) ≡ paste out at t (i + 1)
-copied t out new at n i e g f h = rw (f, add-one) (paste-suc out at t i 0 (omega arith) (omega arith))
-
-pub all_copied : (t out new : List ℕ) (at n i : ℕ) → new ≡ paste out at t i → i ≤ n → n ≤ i → new ≡ paste out at t n
-all_copied t out new at n i f h l = let z : i ≡ n = omega arith in f ∙ rw z
-
--- `four_at`: the four bytes from at on
-pub four_added : (s : List ℕ) (at : ℕ) → at + 4 ≤ length s
-    → get_or s at 0 + 256 * get_or s (at + 1) 0 + 65536 * get_or s (at + 2) 0 + 16777216 * get_or s (at + 3) 0 ≡ number (take 4 (drop at s))
-unfolding number
-four_added s at h =
-    rw (add-one, add-two, add-three, drop-cons s at 0 (omega arith), drop-cons s (suc at) 0 (omega arith), drop-cons s (suc (suc at)) 0 (omega arith), drop-cons s (suc (suc (suc at))) 0 (omega arith))
-    (omega arith)
-
--- the bytes of a word stored
-module _ (out : List ℕ) (v at : ℕ) where
-  word_stored : (m : ℕ) → at + suc m ≤ length out → sets out at (bytes m v) ≡ take at out ++ bytes m v ++ drop (at + suc m) out
-  word_stored m h =
-      let size : length (bytes m v) ≡ suc m = length_bytes m v in
-      sets-eq (bytes m v) out at (omega arith) ∙ rw size
-
-  pub eight_stored : at + 8 ≤ length out
-      → sets out at (v % 256 ∷ v / 256 % 256 ∷ v / 65536 % 256 ∷ v / 16777216 % 256 ∷ v / 4294967296 % 256 ∷ v / 1099511627776 % 256 ∷ v / 281474976710656 % 256 ∷ v / 72057594037927936 ∷ [])
-      ≡ take at out ++ little_endian v ++ drop (at + 8) out
-  eight_stored h = ap (sets out at) (eight v) ∙ word_stored 7 h
-
-  pub four_stored : at + 4 ≤ length out
-      → sets out at (v % 256 ∷ v / 256 % 256 ∷ v / 65536 % 256 ∷ v / 16777216 ∷ []) ≡ take at out ++ bytes 3 v ++ drop (at + 4) out
-  four_stored h = ap (sets out at) (four v) ∙ word_stored 3 h
-
--- The first i bytes of the text stand there. The suc m bytes from k on are written as one word, some of them perhaps where they stand already.
-module _ (t out new : List ℕ) (at n i : ℕ) (b : Bytes t) (l : n ≤ length t) (r : n ≤ length out - at) (f : new ≡ paste out at t i) where
-  word_copied : (m k v : ℕ) (next : List ℕ) → k ≤ i → i ≤ k + suc m → k + suc m ≤ n → v ≡ number (take (suc m) (drop k t))
-      → next ≡ take (at + k) new ++ bytes m v ++ drop (at + k + suc m) new → next ≡ paste out at t (k + suc m)
-  word_copied m k v next h u w e g =
-      g
-      ∙ rw (f, front, back, word)
-      (ap (λ (x : List ℕ). x ++ drop (at + k + suc m) out) (append_assoc (take at out) (take k t) (take (suc m) (drop k t)))
-      ∙ rw (take-add k (suc m) t, add_assoc at k (suc m)))
-    where
-      front : take (at + k) (paste out at t i) ≡ take at out ++ take k t
-      front =
-          let size : length (take at out) ≡ at = length-take-le at out (omega arith) in
-          sym (take-take (at + k) (at + i) (paste out at t i) (omega arith))
-          ∙ rw (take-paste out at t i (omega arith) (omega arith)) (rw size at (take-append-add (take at out) (take i t) k) ∙ rw (take-take k i t h))
-
-      back : drop (at + k + suc m) (paste out at t i) ≡ drop (at + k + suc m) out
-      back =
-          let z : at + k + suc m ≡ at + i + (k + suc m - i) = omega arith in
-          rw z (behind_paste out at i (k + suc m - i) t (omega arith) (omega arith))
-
-      word : bytes m v ≡ take (suc m) (drop k t)
-      word =
-          let s = take (suc m) (drop k t) in
-          let size : length s ≡ suc m = simp (length-take, length-drop) (omega arith) in
-          let none : suc m - suc m ≡ 0 = omega arith in
-          rw e (bytes_back m s (take_bytes (suc m) (drop k t) (drop_bytes k t b)) (omega arith) ∙ rw (size, none) (append-nil s))
-
-  -- the last of n bytes
-  word_last : (m v : ℕ) (next : List ℕ) → suc m ≤ n → i ≤ n → n - suc m ≤ i → v ≡ number (take (suc m) (drop (n - suc m) t))
-      → next ≡ take (at + (n - suc m)) new ++ bytes m v ++ drop (at + (n - suc m) + suc m) new → next ≡ paste out at t n
-  word_last m v next j u h e g =
-      let z : n - suc m + suc m ≡ n = omega arith in
-      word_copied m (n - suc m) v next h (omega arith) (omega arith) e g ∙ rw z
-
-  -- the next eight, and the last
-  pub eight_more : (v : ℕ) (next : List ℕ) → i < n - 8 → v ≡ number (take 8 (drop i t))
-      → next ≡ take (at + i) new ++ little_endian v ++ drop (at + i + 8) new → next ≡ paste out at t (i + 8)
-  eight_more v next h = word_copied 7 i v next (omega arith) (omega arith) (omega arith)
-
-  pub eight_last : (v : ℕ) (next : List ℕ) → 8 ≤ n → i ≤ n → n - 8 ≤ i → v ≡ number (take 8 (drop (n - 8) t))
-      → next ≡ take (at + (n - 8)) new ++ little_endian v ++ drop (at + (n - 8) + 8) new → next ≡ paste out at t n
-  eight_last = word_last 7
-
--- the first four and the last four, of at most eight
-module _ (t out mid next : List ℕ) (at n v w : ℕ) (b : Bytes t) (l : n ≤ length t) (r : n ≤ length out - at) where
-  pub four_twice : 4 ≤ n → n ≤ 8 → v ≡ number (take 4 t) → mid ≡ take at out ++ bytes 3 v ++ drop (at + 4) out
-      → w ≡ number (take 4 (drop (n - 4) t)) → next ≡ take (at + (n - 4)) mid ++ bytes 3 w ++ drop (at + (n - 4) + 4) mid → next ≡ paste out at t n
-  four_twice h u e f = word_last t out mid at n 4 b l r first 3 w next h h (omega arith)
-    where
-      first : mid ≡ paste out at t 4
-      first = word_copied t out out at n 0 b l r (paste-zero out at t) 3 0 v mid (omega arith) (omega arith) (omega arith) e (rw add-zero f)
-
--- `put_four` stores what `four_at` reads
-pub four_fits : (t : List ℕ) (k v : ℕ) → Bytes t → v ≡ number (take 4 (drop k t)) → v < 4294967296
-four_fits t k v b e =
-    let s = take 4 (drop k t) in
-    let size : length s ≤ 4 = simp length-take (omega arith) in
-    let top : 2 ^ (8 * length s) ≤ 2 ^ 32 = pow_mono {j = 32} (omega arith) in
-    omega (arith, number_bound s (take_bytes 4 (drop k t) (drop_bytes k t b)))
-
--- n bytes copied, as many as there is room for
-pub bytes_written : (t out new : List ℕ) (at n : ℕ) → n ≡ min (length t) (length out - at) → new ≡ paste out at t n → Written t out at new (at + n)
+-- the first n bytes copied, as many as there is room for
+pub bytes_written : (t out ys : List ℕ) (at n : ℕ) → at < length out → n ≡ min (length t) (length out - at) → ys ≡ take n t
+    → Written t out at (put_mid at (at + n - at) out ys) (at + n)
 unfolding overwrite room
-bytes_written t out new at n e f = record { list = f ∙ rw e; place = rw e }
+bytes_written t out ys at n h e f =
+    let k : at + n - at ≡ n = omega arith in
+    record { list = rw (k, f, drop-drop, e) (sym (append_assoc (take at out) _ _)); place = rw e }
 
 -- what has room of a text, written to its part of the list
 take_room : (out : List ℕ) (at : ℕ) (t : List ℕ) → take (room out at t) t ≡ take (length out - at) t
@@ -289,7 +198,7 @@ part_written t out ys at len e f =
 
 -- a call that measured its text and refuses
 module _ (t out : List ℕ) (n : ℕ) (e : n ≡ length t) where
-  pub too_short : length out < n → TooShort ≡ answer t out
+  pub too_short : length out < n → (Err TooShort) ≡ answer t out
   unfolding answer
   too_short h = simp (← e, lt-leb n (length out) h)
 
@@ -298,7 +207,7 @@ module _ (t out : List ℕ) (n : ℕ) (e : n ≡ length t) where
   kept h = simp (← e, lt-leb n (length out) h)
 
   -- or lets a writer run from the list's start
-  pub wrote : (new : List ℕ) (a : ℕ) → n ≤ length out → Written t out 0 new a → Wrote a ≡ answer t out
+  pub wrote : (new : List ℕ) (a : ℕ) → n ≤ length out → Written t out 0 new a → Ok a ≡ answer t out
   unfolding answer
   wrote new a h w = rw (z, le-leb (length t) (length out) (omega arith))
     where

@@ -8,9 +8,9 @@
 --   too_short, kept, wrote, whole     a call that measures its text, refuses a list that is too short, and else writes from place 0
 -- A crate that prints states two laws of each of its texts, over plain variables, and hands them to `search`: what its writers' contracts make by `then`,
 -- and that the sum that its code computes is the text's length.
-use Rattle.std.specs.Prelude.{ℕ, ◌+◌, ◌-◌, min, ◌≡◌, List, ◌++◌, cond, length, take, drop, leb}
-use Rattle.output.specs.declared.Put.{Put}
-use Rattle.output.specs.declared.Put.TheVariants.{Wrote, TooShort}
+use Rattle.std.specs.Prelude.{ℕ, ◌+◌, ◌-◌, min, ◌≡◌, List, ◌++◌, cond, length, take, drop, leb, Result, Ok, Err}
+use Rattle.output.specs.declared.PutError.{PutError}
+use Rattle.output.specs.declared.PutError.TheVariants.{TooShort}
 
 -- how many bytes of the text there is room for from the place at on
 unfoldable pub room : List ℕ → ℕ → List ℕ → ℕ
@@ -29,10 +29,10 @@ pub record Written (text out : List ℕ) (at : ℕ) (new : List ℕ) (r : ℕ) :
 unfoldable pub front : List ℕ → List ℕ → List ℕ
 front text out = cond (leb (length text) (length out)) (text ++ drop (length text) out) out
 
-unfoldable pub answer : List ℕ → List ℕ → Put
-answer text out = cond (leb (length text) (length out)) (Wrote (length text)) TooShort
+unfoldable pub answer : List ℕ → List ℕ → Result ℕ PutError
+answer text out = cond (leb (length text) (length out)) (Ok (length text)) (Err TooShort)
 
 -- 01's number of the answer
-abbrev pub number : Put → ℕ
-number (Wrote n) = 0
-number TooShort = 9
+abbrev pub number : Result ℕ PutError → ℕ
+number (Ok n) = 0
+number (Err TooShort) = 9

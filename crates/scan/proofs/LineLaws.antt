@@ -6,7 +6,7 @@ use mathlib.Core.List.{List, [], ◌∷◌, ◌++◌, map, flatten, head_d, appe
 use native.Mathlib.Omega.{arith}
 use lib.ListN.{length, get_or, take, drop, length-append, length-take, length-drop, take-append-drop, drop_of_length-le}
 use lib.Seq.{take_at, drop-drop}
-use native.Mathlib.Nat.{add-zero, add_assoc}
+use native.Mathlib.Nat.{add_assoc}
 use lib.Dec.{leb}
 use borrow.Author.Tests.{eq-eqb, ne_eqb, eqb-true, eqb-false, leb-true, leb-false}
 use Rattle.scan.specs.Lists.{onto, any_of, take_while, drop_while, end_while}
@@ -25,9 +25,6 @@ module _ (s : List ℕ) (at i : ℕ) (e : end_while not_feed s at ≡ end_while 
   pub feed_far : (r : Bool) → 64 ≤ length s - i → r ≡ any_of is_feed (take 64 (drop i s)) → r ≡ false → end_while not_feed s at ≡ end_while not_feed s (i + 64)
   feed_far r h q n = e ∙ end_while_over is_feed s 64 i 0 (omega arith) (sym q ∙ n)
 
-  pub feed_from : (r : ℕ) → r ≡ end_while not_feed s i → r ≡ end_while not_feed s at
-  feed_from r q = q ∙ sym e
-
 -- the test of 64 bytes: the first k of them are seen
 pub near_none : (s : List ℕ) (at : ℕ) → false ≡ any_of is_feed (take 0 (drop at s))
 unfolding any_of
@@ -37,27 +34,14 @@ module _ (s : List ℕ) (at k : ℕ) (near : Bool) (e : near ≡ any_of is_feed 
   pub near_more : at + 64 ≤ length s → k < 64 → (near || is_feed (get_or s (at + k) 0)) ≡ any_of is_feed (take (k + 1) (drop at s))
   near_more h l = sym (any_of_next is_feed s at k 0 (omega arith) ∙ rw e)
 
-  pub near_all : k ≤ 64 → 64 ≤ k → near ≡ any_of is_feed (take 64 (drop at s))
-  near_all h l = let z : k ≡ 64 = omega arith in rw z at e
-
--- a byte's place
-pub place_feed : (b k : ℕ) → b ≡ 10 → k ≡ cond (is_feed b) k 64
-place_feed b k h = simp (eq-eqb b 10 h)
-
-pub place_other : (b k : ℕ) → (b ≡ 10 → ⊥) → 64 ≡ cond (is_feed b) k 64
-place_other b k h = simp (ne_eqb b 10 h)
-
 -- the least place of a line feed, with the first k bytes seen; 64 as long as none has come
 pub record Least (s : List ℕ) (at k first : ℕ) : Type 0 where
   pub found : first < k → at + first ≡ end_while not_feed s at
   pub none : k ≤ first → (first ≡ 64) × (end_while not_feed s at ≡ end_while not_feed s (at + k))
 
-pub least_none : (s : List ℕ) (at : ℕ) → Least s at 0 64
-least_none s at = record { found = λ h. absurd (omega arith); none = λ h. (refl, rw add-zero) }
-
 module _ (s : List ℕ) (at k first : ℕ) (e : Least s at k first) where
   -- with the next byte
-  pub least_more : at + 64 ≤ length s → k < 64 → (p r : ℕ) → p ≡ cond (is_feed (get_or s (at + k) 0)) k 64 → r ≡ min p first → Least s at (k + 1) r
+  pub least_more : at + 64 ≤ length s → k < 64 → (p r : ℕ) → p ≡ cond (is_feed (get_or s (at + k) 0)) k 64 → r ≡ min first p → Least s at (k + 1) r
   least_more h l p r q m = go (is_feed (get_or s (at + k) 0)) refl (leb k first) refl q
     where
       seen : first < k → r ≡ first → Least s at (k + 1) r
@@ -76,14 +60,6 @@ module _ (s : List ℕ) (at k first : ℕ) (e : Least s at k first) where
           }
       go true f false u q = seen (leb-false k first u) (omega (arith, leb-false k first u))
       go false f false u q = seen (leb-false k first u) (omega (arith, leb-false k first u))
-
-  -- all 64 are seen
-  pub least_all : k ≤ 64 → 64 ≤ k → first ≡ min 64 (length (take_while not_feed (drop at s)))
-  least_all h l = go (leb k first) refl
-    where
-      go : (b : Bool) → leb k first ≡ b → first ≡ min 64 (length (take_while not_feed (drop at s)))
-      go true q = omega (arith, (e.none (leb-true k first q)).0, (e.none (leb-true k first q)).1)
-      go false q = omega (arith, e.found (leb-false k first q), leb-false k first q)
 
 -- a line feed among 64 bytes stands at the least place
 pub feed_least : (s : List ℕ) (at i r : ℕ) (q : Bool) → end_while not_feed s at ≡ end_while not_feed s i → q ≡ any_of is_feed (take 64 (drop i s)) → q ≡ true

@@ -1,5 +1,5 @@
 -- Laws of lists cut by a test of their elements.
-use Prim.Native.Nat.{ℕ, zero, suc, ◌+◌, ◌≤◌, ◌<◌}
+use Prim.Native.Nat.{ℕ, zero, suc, ◌+◌, ◌≤◌, ◌<◌, max}
 use mathlib.Core.Path.{◌≡◌, refl, sym, ap, ◌∙◌}
 use mathlib.Core.Bool.{Bool, true, false, cond, not, ◌||◌, or_assoc, or-false, false≢true}
 use mathlib.Core.List.{List, [], ◌∷◌, ◌++◌, flatten, nil≢cons}
@@ -8,6 +8,8 @@ use native.Mathlib.Nat.{add-zero}
 use native.Mathlib.Numerals.{add-one}
 use lib.ListN.{length, get_or, take, drop, length-append, length-drop, drop_of_length-le}
 use lib.Seq.{take_at, drop_at, drop-cons, drop-drop, take-suc, get_or-drop}
+use lib.Dec.{leb}
+use borrow.Author.Tests.{leb-true, leb-false}
 use Rattle.scan.specs.Lists.{onto, non_empty, any_of, take_while, drop_while, end_while, split_by, tokens_by}
 
 pub flatten_onto : {A : Type 0} (x : A) (l : List (List A)) → flatten (onto x l) ≡ x ∷ flatten l
@@ -55,11 +57,21 @@ module _ {A : Type 0} (p : A → Bool) where
   pub end_while_inside : (s : List A) (i : ℕ) → i ≤ length s → end_while p s i ≤ length s
   end_while_inside s i h = omega (arith, take_while_length (drop i s), length-drop i s)
 
+  pub end_while_past : (s : List A) (i : ℕ) → length s ≤ i → end_while p s i ≡ i
+  unfolding take_while
+  end_while_past s i h = rw (drop_of_length-le s h) (add-zero i)
+
   -- a scan: the end sought from `at` on is the one from i on
   module _ (s : List A) (at i : ℕ) (e : end_while p s at ≡ end_while p s i) where
     pub scan_end : length s ≤ i → i ≡ end_while p s at
-    unfolding take_while
-    scan_end h = sym (e ∙ rw (drop_of_length-le s h) (add-zero i))
+    scan_end h = sym (e ∙ end_while_past s i h)
+
+    pub scan_out : length s ≤ i → (at ≤ length s → i ≤ length s) → max at (length s) ≡ end_while p s at
+    scan_out h l = go (leb at (length s)) refl
+      where
+        go : (z : Bool) → leb at (length s) ≡ z → max at (length s) ≡ end_while p s at
+        go true f = omega (arith, scan_end h, leb-true at (length s) f, l (leb-true at (length s) f))
+        go false f = let past : length s < at = leb-false at (length s) f in omega (arith, end_while_past s at (omega arith))
 
     pub scan_stop : (d : A) → i < length s → p (get_or s i d) ≡ false → i ≡ end_while p s at
     unfolding take_while

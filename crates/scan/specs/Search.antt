@@ -1,7 +1,5 @@
 -- Byte strings compared and searched for.
-use Rattle.std.specs.Prelude.{ℕ, ◌+◌, Bool, true, false, cond, ◌&&◌, List, [], ◌∷◌, length, take, eqb}
-use Rattle.scan.specs.declared.Found.{Found}
-use Rattle.scan.specs.declared.Found.TheVariants.{At, Nothing}
+use Rattle.std.specs.Prelude.{ℕ, ◌+◌, Bool, true, false, cond, ◌&&◌, List, [], ◌∷◌, length, take, eqb, Option, Some, None}
 
 -- byte for byte the same
 unfoldable pub equal : List ℕ → List ℕ → Bool
@@ -15,9 +13,9 @@ abbrev pub starts_with : List ℕ → List ℕ → Bool
 starts_with s p = equal (take (length p) s) p
 
 -- the first place at which p stands in s, where s is what a text holds from the place i on
-unfoldable pub find_from : ℕ → List ℕ → List ℕ → Found
-find_from i [] p = cond (starts_with [] p) (At i) Nothing
-find_from i (x ∷ s) p = let r = find_from (i + 1) s p in cond (starts_with (x ∷ s) p) (At i) r
+unfoldable pub find_from : ℕ → List ℕ → List ℕ → Option ℕ
+find_from i [] p = cond (starts_with [] p) (Some i) None
+find_from i (x ∷ s) p = let r = find_from (i + 1) s p in cond (starts_with (x ∷ s) p) (Some i) r
 
-abbrev pub find_in : List ℕ → List ℕ → Found
+abbrev pub find_in : List ℕ → List ℕ → Option ℕ
 find_in s p = find_from 0 s p

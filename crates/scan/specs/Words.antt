@@ -1,8 +1,6 @@
 -- The words of a line (01, Text: header tokens split at space, tab, LF, FF, CR only).
-use Rattle.std.specs.Prelude.{ℕ, Bool, cond, not, ◌||◌, List, length, eqb, ltb}
+use Rattle.std.specs.Prelude.{ℕ, Bool, cond, not, ◌||◌, List, length, eqb, ltb, Option, Some, None}
 use Rattle.scan.specs.Lists.{tokens_by, end_while}
-use Rattle.scan.specs.declared.Word.{Word}
-use Rattle.scan.specs.declared.Word.TheVariants.{At, Nothing}
 
 -- space, tab, LF, FF, CR
 abbrev pub is_gap : ℕ → Bool
@@ -15,9 +13,9 @@ abbrev pub words : List ℕ → List (List ℕ)
 words s = tokens_by is_gap s
 
 -- the word that starts at i, where there is a byte left
-abbrev pub word_at : List ℕ → ℕ → Word
-word_at s i = cond (ltb i (length s)) (At i (end_while not_gap s i)) Nothing
+abbrev pub word_at : List ℕ → ℕ → Option (ℕ × ℕ)
+word_at s i = cond {A = Option (ℕ × ℕ)} (ltb i (length s)) (Some (i, end_while not_gap s i)) None
 
 -- the first word from the place i on
-unfoldable pub next_word : List ℕ → ℕ → Word
+unfoldable pub next_word : List ℕ → ℕ → Option (ℕ × ℕ)
 next_word s i = word_at s (end_while is_gap s i)

@@ -1,4 +1,5 @@
 -- Laws of tokens: the walk from one to the next. They hold for any bytes.
+use Rattle.std.specs.Prelude.{Option, Some, None, unwrap_or}
 use mathlib.Core.Path.{◌≡◌, refl, sym, ap, ◌∙◌}
 use mathlib.Core.List.{List, [], ◌∷◌, ◌++◌, append_assoc, map, flatten}
 use mathlib.Core.Bool.{Bool, not}
@@ -10,14 +11,13 @@ use Rattle.scan.specs.Lists.{take_while, drop_while, tokens_by}
 use Rattle.scan.proofs.ListLaws.{drop_while_head, tokens_by_none, tokens_by_some}
 use Rattle.utf8.specs.Utf8.{piece_len, chars_from, chars}
 use Rattle.text.specs.White.{is_space, trim_start, after_token, token_at, next_token, tokens}
-use Rattle.text.specs.declared.Token.TheVariants.{At, Nothing}
 use Rattle.utf8.proofs.CharLaws.{piece_pos, piece_le}
 use Rattle.utf8.proofs.CharsLaws.{chars_more}
 use Rattle.text.proofs.WhiteLaws.{skip_none, drop_back}
 use Rattle.text.proofs.TrimLaws.{skip_part, skip_length, chars_skip}
 
 -- next_token
-pub token_past : (s : List ℕ) (i : ℕ) → length s ≤ i → Nothing ≡ next_token s i
+pub token_past : (s : List ℕ) (i : ℕ) → length s ≤ i → None ≡ next_token s i
 unfolding next_token
 token_past s i h = sym (ap (token_at s) (ap trim_start (drop_of_length-le s {i = i} h) ∙ skip_none is_space [] (omega arith)))
 
@@ -36,24 +36,24 @@ module _ (s t : List ℕ) (i : ℕ) (h : i < length s) (e : t ≡ trim_start (ta
   left : trim_start (drop i s) ≡ t
   left = ap trim_start (sym (take_all (length s - i) (drop i s) (simp length-drop (omega arith)))) ∙ sym e
 
-  pub token_none : length t ≡ 0 → Nothing ≡ next_token s i
+  pub token_none : length t ≡ 0 → None ≡ next_token s i
   unfolding next_token
   token_none z = sym (ap (token_at s) left ∙ go t z)
     where
-      go : (t : List ℕ) → length t ≡ 0 → token_at s t ≡ Nothing
+      go : (t : List ℕ) → length t ≡ 0 → token_at s t ≡ None
       go [] z = refl
       go (b ∷ t) z = absurd (omega arith)
 
   pub rest_length : length t ≤ length s
   rest_length = omega (arith, skip_length is_space (drop i s), ap length left, length-drop i s)
 
-  pub token_found : (b : ℕ) → b ≡ length s - length (after_token (drop (length s - length t) s)) → (length t ≡ 0 → ⊥) → At (length s - length t) b ≡ next_token s i
+  pub token_found : (b : ℕ) → b ≡ length s - length (after_token (drop (length s - length t) s)) → (length t ≡ 0 → ⊥) → Some (length s - length t, b) ≡ next_token s i
   unfolding next_token
   token_found b f n = sym (ap (token_at s) left ∙ go t n (f ∙ ap (λ x. length s - length (after_token x)) (at_start s t i left)))
     where
-      go : (t : List ℕ) → (length t ≡ 0 → ⊥) → b ≡ length s - length (after_token t) → token_at s t ≡ At (length s - length t) b
+      go : (t : List ℕ) → (length t ≡ 0 → ⊥) → b ≡ length s - length (after_token t) → token_at s t ≡ Some (length s - length t, b)
       go [] n f = absurd (n refl)
-      go (x ∷ t) n f = ap (λ y. At (length s - length (x ∷ t)) y) (sym f)
+      go (x ∷ t) n f = ap (λ y. Some (length s - length (x ∷ t), y)) (sym f)
 
 -- the walk: no token at the place i or behind it, or one from a to b and then those behind b
 pub record Walk (s : List ℕ) (i a b : ℕ) : Type 0 where
@@ -62,11 +62,11 @@ pub record Walk (s : List ℕ) (i a b : ℕ) : Type 0 where
   pub inside : b ≤ length s
   pub step : tokens (drop i s) ≡ take (b - a) (drop a s) ∷ tokens (drop b s)
 
-pub walk_end : (s : List ℕ) (i : ℕ) → next_token s i ≡ Nothing → tokens (drop i s) ≡ []
+pub walk_end : (s : List ℕ) (i : ℕ) → next_token s i ≡ None → tokens (drop i s) ≡ []
 unfolding next_token chars_from
 walk_end s i e = go (trim_start (drop i s)) refl e
   where
-    go : (t : List ℕ) → trim_start (drop i s) ≡ t → token_at s t ≡ Nothing → tokens (drop i s) ≡ []
+    go : (t : List ℕ) → trim_start (drop i s) ≡ t → token_at s t ≡ None → tokens (drop i s) ≡ []
     go [] f e = ap (map flatten) (tokens_by_none is_space (chars (drop i s)) (sym (chars_skip is_space (drop i s)) ∙ ap chars f))
     go (x ∷ t) f e = let z : ◌≡◌ {A = ℕ} 0 1 = cc in absurd (omega arith)
 
@@ -117,10 +117,15 @@ module _ (s t : List ℕ) (i : ℕ) (f : trim_start (drop i s) ≡ t) (n : 0 < l
         step = cut ∙ ap (λ x. x ∷ tokens (after_token t)) (sym w) ∙ ap (λ x. take (b - a) (drop a s) ∷ tokens x) (sym v);
       }
 
-pub walk : (s : List ℕ) (i a b : ℕ) → next_token s i ≡ At a b → Walk s i a b
+pub walk : (s : List ℕ) (i a b : ℕ) → next_token s i ≡ Some (a, b) → Walk s i a b
 unfolding next_token
 walk s i a b e = go (trim_start (drop i s)) refl e
   where
-    go : (t : List ℕ) → trim_start (drop i s) ≡ t → token_at s t ≡ At a b → Walk s i a b
+    go : (t : List ℕ) → trim_start (drop i s) ≡ t → token_at s t ≡ Some (a, b) → Walk s i a b
     go [] f e = let z : ◌≡◌ {A = ℕ} 0 1 = cc in absurd (omega arith)
-    go (x ∷ t) f e = walked s (x ∷ t) i f (omega arith) a b (cc) (cc)
+    go (x ∷ t) f e =
+        let of : (Option (ℕ × ℕ) → ℕ × ℕ) = λ (w : Option (ℕ × ℕ)). unwrap_or w (0, 0) in
+        walked s (x ∷ t) i f (omega arith) a b (sym (ap (λ w. (of w).0) e)) (sym (ap (λ w. (of w).1) e))
+
+-- what the search for the next token uses
+pub ruleset next_laws = (token_past, token_none, rest_length, token_found)

@@ -7,7 +7,7 @@ use Prim.Native.Nat.{ℕ, suc, ◌+◌, ◌-◌, ◌*◌, ◌%◌, ◌≤◌, �
 use native.Mathlib.Omega.{arith}
 use lib.Dec.{ltb, eqb}
 use lib.ListN.{length, get_or, take, drop, length-append, length-drop, take-append-drop, drop_of_length-le}
-use lib.Seq.{take_all, drop-cons, length-take-le, take_at, drop_at}
+use lib.Seq.{drop-cons, length-take-le, take_at, drop_at}
 use borrow.Author.Tests.{le-leb, lt-leb, lt-ltb, ne_eqb, eqb-true, ltb-true}
 use Rattle.scan.specs.Lists.{drop_while}
 use Rattle.utf8.specs.Utf8.{within, char_len, piece_len, chars_from, chars, is_char, code_point, encode}
@@ -132,7 +132,7 @@ none_white [] h = refl
 none_white (b ∷ s) h = absurd (omega arith)
 
 module _ (s : List ℕ) (n : length s ≡ 0 → ⊥) (l : get_or s 0 0 < 0x80) (t : Bool) (w : t ≡ is_white (get_or s 0 0)) where
-  one_white : white_len (chars s) ≡ cond t 1 0
+  pub one_white : white_len (chars s) ≡ cond t 1 0
   unfolding code_point
   one_white = white_char s (omega arith) 1 (char_one s n l) (λ z. omega arith) ∙ ap (λ u. cond u 1 0) (ap is_white (byte s n) ∙ sym w)
     where
@@ -166,6 +166,9 @@ visible_white b v =
       and-false,
     )
 
+seen : (b : ℕ) → 0x21 ≤ b → b ≤ 0x7E → within 0x21 0x7E b ≡ true
+seen b l m = simp (le-leb 0x21 b l, le-leb b 0x7E m)
+
 -- a space is white, and a line feed is
 space_white : (b : ℕ) → b ≡ 0x20 → is_white b ≡ true
 unfolding is_white
@@ -190,6 +193,9 @@ module _ (t : List ℕ) (h : 0 < length t) where
 
   pub front_visible : within 0x21 0x7E (get_or t 0 0) ≡ true → 0 ≡ white_len (chars t)
   front_visible v = one_no t (λ z. omega arith) (omega (arith, (in_range 0x21 0x7E (get_or t 0 0) v).1)) (is_white (get_or t 0 0)) refl (visible_white (get_or t 0 0) v)
+
+  pub front_seen : 0x21 ≤ get_or t 0 0 → get_or t 0 0 ≤ 0x7E → 0 ≡ white_len (chars t)
+  front_seen l m = front_visible (seen (get_or t 0 0) l m)
 
 -- the first character passes a test, or not
 module _ (p : List ℕ → Bool) (t : List ℕ) where
@@ -287,12 +293,6 @@ pub drop_back : (x p t : List ℕ) → x ++ p ≡ t → drop (length t - length 
 drop_back x p t e = ap (drop (length t - length p)) (sym e) ∙ drop_at x p (length t - length p) (omega (arith, ap length e, length-append x p))
 
 -- the last k bytes
-pub last_some : (s : List ℕ) (k : ℕ) → k ≤ length s → take (length s - (length s - k)) (drop (length s - k) s) ≡ drop (length s - k) s
-last_some s k h = take_all (length s - (length s - k)) (drop (length s - k) s) (simp length-drop (omega arith))
-
-pub last_all : (s : List ℕ) (k : ℕ) → length s < k → s ≡ drop (length s - k) s
-last_all s k h = let z : length s - k ≡ 0 = omega arith in simp z
-
 -- the characters from the back: the last is p
 module _ (t p : List ℕ) (l : List (List ℕ)) (e : reverse (chars t) ≡ p ∷ l) where
   from_back : chars t ≡ reverse l ++ (p ∷ [])
@@ -362,10 +362,10 @@ module _ (t : List ℕ) (k : ℕ) (e : k ≡ white_len (reverse (chars t))) wher
   end_more n = ⊎_elim (λ x. absurd (n x.size)) (λ x. x.less) at_end_lem
 
 -- white_end
-pub end_empty : (s : List ℕ) (n : ℕ) → n ≡ length s → n ≡ 0 → 0 ≡ white_len (reverse (chars s))
+pub end_empty : (s : List ℕ) → length s ≡ 0 → 0 ≡ white_len (reverse (chars s))
 unfolding chars_from white_len
-end_empty [] n e h = refl
-end_empty (b ∷ s) n e h = absurd (omega arith)
+end_empty [] h = refl
+end_empty (b ∷ s) h = absurd (omega arith)
 
 -- a part of s at its end that begins with no UTF8-tail has the last of the characters of s
 ends : (q w : List ℕ) (p : List ℕ) → Begins w → chars w ≡ p ∷ [] → reverse (chars (q ++ w)) ≡ p ∷ reverse (chars q)
@@ -471,7 +471,33 @@ module _ (t : List ℕ) (h : 0 < length t) where
       back 0 (omega (arith, (in_range 0x21 0x7E (get_or t (length t - 1) 0) v).1))
       (front_visible (drop (length t - 1) t) some_left (ap (within 0x21 0x7E) byte ∙ v))
 
+  pub back_space : get_or t (length t - 1) 0 ≡ 0x20 → 1 ≡ white_len (reverse (chars t))
+  back_space e = back_white (omega arith) (space_white (get_or t (length t - 1) 0) e)
+
+  pub back_feed : get_or t (length t - 1) 0 ≡ 0x0A → 1 ≡ white_len (reverse (chars t))
+  back_feed e = back_white (omega arith) (feed_white (get_or t (length t - 1) 0) e)
+
+  pub back_seen : 0x21 ≤ get_or t (length t - 1) 0 → get_or t (length t - 1) 0 ≤ 0x7E → 0 ≡ white_len (reverse (chars t))
+  back_seen l m = back_visible (seen (get_or t (length t - 1) 0) l m)
+
+-- visible ASCII is ink, and a space is none
+module _ (t : List ℕ) (h : 0 < length t) where
+  pub ink_seen : 0x21 ≤ get_or t 0 0 → get_or t 0 0 ≤ 0x7E → 1 ≡ piece_len t - white_len (chars t)
+  ink_seen l m = ink_some t 0 (front_seen t h l m) 1 refl (omega (arith, char_one t (λ z. omega arith) (omega arith)))
+
+  pub ink_space : get_or t 0 0 ≡ 0x20 → 0 ≡ piece_len t - white_len (chars t)
+  ink_space e = ink_none t 1 (front_space t h e) (λ z. omega arith)
+
 pub end_end : (t : List ℕ) → length t ≤ 0 → trim_end t ≡ t
 unfolding trim_end chars_from drop_while flatten
 end_end [] h = refl
 end_end (b ∷ t) h = absurd (omega arith)
+
+-- what the tests of a character use, at the front and at the end
+pub ruleset wide_laws = (char_le, two_yes, two_no, three_yes, three_no, other_no)
+
+pub ruleset front_laws = (none_white, front_space, front_seen, one_white)
+
+pub ruleset end_laws = (end_empty, back_space, back_feed, back_seen, end_ascii, end_some, end_none)
+
+pub ruleset ink_laws = (ink_seen, ink_space, ink_none, ink_some)

@@ -1,10 +1,8 @@
 -- White space, trimming and tokens (01, Text), all said of the text's characters.
-use Rattle.std.specs.Prelude.{ℕ, ◌-◌, Bool, cond, not, ◌&&◌, ◌||◌, length, drop, eqb}
+use Rattle.std.specs.Prelude.{ℕ, ◌-◌, Bool, cond, not, ◌&&◌, ◌||◌, length, drop, eqb, Option, Some, None}
 use mathlib.Core.List.{List, [], ◌∷◌, map, flatten, reverse}
 use Rattle.scan.specs.Lists.{drop_while, tokens_by}
 use Rattle.utf8.specs.Utf8.{within, chars, is_char, code_point}
-use Rattle.text.specs.declared.Token.{Token}
-use Rattle.text.specs.declared.Token.TheVariants.{At, Nothing}
 
 -- Unicode White_Space (01, Text: its list of code points)
 unfoldable pub is_white : ℕ → Bool
@@ -52,12 +50,12 @@ unfoldable pub after_token : List ℕ → List ℕ
 after_token s = skip (λ p. not (is_space p)) s
 
 -- the token at the front of t, which is what is left of s where the white space ends: its start and end in s
-abbrev pub token_at : List ℕ → List ℕ → Token
-token_at s [] = Nothing
-token_at s (b ∷ t) = At (length s - length (b ∷ t)) (length s - length (after_token (b ∷ t)))
+abbrev pub token_at : List ℕ → List ℕ → Option (ℕ × ℕ)
+token_at s [] = None
+token_at s (b ∷ t) = Some (length s - length (b ∷ t), length s - length (after_token (b ∷ t)))
 
 -- the next token at the place i or behind it
-unfoldable pub next_token : List ℕ → ℕ → Token
+unfoldable pub next_token : List ℕ → ℕ → Option (ℕ × ℕ)
 next_token s i = token_at s (trim_start (drop i s))
 
 -- how many bytes the first of these characters has where it is white, else 0 (for the functions that look at one end of a text)

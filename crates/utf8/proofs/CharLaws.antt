@@ -151,3 +151,6 @@ piece_pos s = omega arith
 
 pub piece_le : (s : List ℕ) → 0 < length s → piece_len s ≤ length s
 piece_le s h = omega (arith, char_le s)
+
+-- what the length of a character uses
+pub ruleset char_laws = (char_none, char_one, char_two, char_three, char_four, char_bad)

@@ -22,6 +22,13 @@ pub edge_inside : (s : List ℕ) (at : ℕ) (t : Bool) → at < length s → t �
 unfolding is_edge
 edge_inside s at t h e = simp (← e, ne_eqb at (length s) (λ z. omega arith), lt-ltb at (length s) h, or-false)
 
+pub edge_start : (s : List ℕ) (at : ℕ) → at ≡ 0 → eqb at 0 ≡ is_edge s at
+unfolding is_edge
+edge_start s at z = let e : eqb at 0 ≡ true = eq-eqb at 0 z in simp e
+
+pub edge_middle : (s : List ℕ) (at : ℕ) (t : Bool) → at < length s → (at ≡ 0 → ⊥) → t ≡ is_tail (get_or s at 0) → not t ≡ is_edge s at
+edge_middle s at t h n e = ap (λ b. b || not t) (sym (ne_eqb at 0 n)) ∙ edge_inside s at t h e
+
 pub edge_end : (s : List ℕ) (at : ℕ) → length s ≤ at → eqb at (length s) ≡ is_edge s at
 unfolding is_edge
 edge_end s at h = simp (le-ltb at (length s) h) (go (eqb at 0) refl)
@@ -143,3 +150,6 @@ module _ (cs : List ℕ) (h : all is_scalar cs ≡ true) where
           (sym (take_at (chars (take at s)) (chars (drop at s)) n refl)
           ∙ ap (take n) (sym (edge_chars s at e) ∙ encode_chars cs h)
           ∙ map_take encode n cs)
+
+-- what the test of an edge uses
+pub ruleset edge_laws = (edge_start, edge_middle, edge_end)

@@ -6,12 +6,12 @@ use Prim.Native.Nat.{ℕ, ◌+◌, ◌-◌, ◌≤◌, ◌<◌, max}
 use native.Mathlib.Omega.{arith}
 use lib.Dec.{ltb}
 use lib.ListN.{length, get_or, take, drop, length-drop}
-use lib.Seq.{take_all, take-take, get_or-drop}
+use lib.Seq.{take_all, take-take}
 use borrow.Author.Tests.{leb-true, lt-ltb, not-true, not-false}
 use Rattle.utf8.specs.Utf8.{is_one, char_len, piece_len, chars_from, chars, is_char, all, readable}
 use Rattle.utf8.proofs.TestLaws.{both}
 use Rattle.utf8.proofs.ListLaws.{all_append, all_parts, all_next, all_more, all_split}
-use Rattle.utf8.proofs.CharLaws.{Begins, char_one}
+use Rattle.utf8.proofs.CharLaws.{Begins, char_one, char_within}
 use Rattle.utf8.proofs.CharsLaws.{chars_more, char_piece, chars_append, chars_of_front, chars_of_rest}
 
 -- the first character and the rest
@@ -49,9 +49,9 @@ ascii_readable s r e t = sym (go s (sym e ∙ t))
         readable_more (b ∷ s) (omega arith) ∙ simp one (go s (both (is_one b) (all is_one s) e).1)
 
 -- is it ASCII, byte by byte: the first i bytes are seen
-pub seen_none : (s : List ℕ) → true ≡ all is_one (take 0 s)
+pub seen_none : true ≡ all is_one []
 unfolding all
-seen_none s = refl
+seen_none = refl
 
 module _ (s : List ℕ) (i : ℕ) (ascii : Bool) (e : ascii ≡ all is_one (take i s)) where
   pub seen_next : i < length s → (ascii && is_one (get_or s i 0)) ≡ all is_one (take (i + 1) s)
@@ -60,29 +60,25 @@ module _ (s : List ℕ) (i : ℕ) (ascii : Bool) (e : ascii ≡ all is_one (take
   pub seen_all : length s ≤ i → ascii ≡ all is_one s
   seen_all h = e ∙ ap (all is_one) (take_all i s h)
 
--- the same of the 64 bytes from the place `at` on, of which k are seen
-module _ (s : List ℕ) (at k : ℕ) (ascii : Bool) (e : ascii ≡ all is_one (take k (drop at s))) where
-  pub near_next : at + 64 ≤ length s → k < 64 → (ascii && is_one (get_or s (at + k) 0)) ≡ all is_one (take (k + 1) (drop at s))
-  near_next h l = sym (all_next is_one (drop at s) k 0 (rw length-drop (omega arith)) ∙ rw (e, get_or-drop))
-
-  pub near_all : k ≤ 64 → 64 ≤ k → ascii ≡ all is_one (take 64 (drop at s))
-  near_all h l = let z : k ≡ 64 = omega arith in rw z at e
-
 -- and with 64 bytes at a time: those in front of the place i are ASCII, and the next 64 have been looked at
-module _ (s : List ℕ) (i : ℕ) (r : Bool) (q : r ≡ all is_one (take 64 (drop i s))) where
+module _ (s : List ℕ) (i : ℕ) (r : Bool) (q : r ≡ all is_one (take (i + 64 - i) (drop i s))) where
+  next : r ≡ all is_one (take 64 (drop i s))
+  next = let z : i + 64 - i ≡ 64 = omega arith in rw z at q
+
   pub ascii_bad : not r ≡ true → false ≡ all is_one s
   ascii_bad n =
       sym (all_split is_one s i
       ∙ ap (λ b. all is_one (take i s) && b) (all_split is_one (drop i s) 64)
-      ∙ simp (← q, not-true r n, and-false))
+      ∙ simp (← next, not-true r n, and-false))
 
   pub ascii_more : true ≡ all is_one (take i s) → not r ≡ false → true ≡ all is_one (take (i + 64) s)
-  ascii_more e y = sym (all_more is_one s i 64 ∙ simp (← e, ← q, not-false r y))
+  ascii_more e y = sym (all_more is_one s i 64 ∙ simp (← e, ← next, not-false r y))
 
 -- the place i is behind the last 64 bytes, or among them
-pub ascii_last : (s : List ℕ) (i : ℕ) (r : Bool) → true ≡ all is_one (take i s) → length s - 64 ≤ i → r ≡ all is_one (take 64 (drop (length s - 64) s)) → r ≡ all is_one s
+pub ascii_last : (s : List ℕ) (i : ℕ) (r : Bool) → true ≡ all is_one (take i s) → length s - 64 ≤ i
+    → r ≡ all is_one (take (length s - (length s - 64)) (drop (length s - 64) s)) → r ≡ all is_one s
 ascii_last s i r e h q =
-    q ∙ ap (all is_one) (take_all 64 (drop (length s - 64) s) (simp length-drop (omega arith)))
+    q ∙ ap (all is_one) (take_all (length s - (length s - 64)) (drop (length s - 64) s) (simp length-drop (omega arith)))
     ∙ sym (all_split is_one s (length s - 64) ∙ simp (front (length s - 64) h))
   where
     front : (n : ℕ) → n ≤ i → all is_one (take n s) ≡ true
@@ -97,3 +93,10 @@ pub readable_parts : (s : List ℕ) (l m : List (List ℕ)) → chars s ≡ l ++
 readable_parts s l m e h =
     let r = all_parts is_char l m (ap (all is_char) (sym e) ∙ h) in
     (ap (all is_char) (chars_of_front l m s e) ∙ r.0, ap (all is_char) (chars_of_rest l m s e) ∙ r.1)
+
+-- what the loops use
+pub ruleset seen_laws = (seen_none, seen_next, seen_all)
+
+pub ruleset ascii_laws = (seen_none, ascii_bad, ascii_more, ascii_last)
+
+pub ruleset readable_laws = (char_within, readable_end, readable_bad, readable_next, readable_ascii)

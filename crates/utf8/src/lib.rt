@@ -9,56 +9,47 @@ ghost use Rattle.utf8.specs.Edge.{is_edge, has_slice};
 fn is_tail(b: u8) -> bool
     ensures { result ≡ is_tail b }
 {
-    (0x80 <= b) & (b <= 0xBF)
+    matches!(b, 0x80..=0xBF)
 }
 
 fn is_two(a: u8, b: u8) -> bool
     ensures { result ≡ is_two a b }
 {
-    ((0xC2 <= a) & (a <= 0xDF)) & ((0x80 <= b) & (b <= 0xBF))
+    matches!(a, 0xC2..=0xDF) && is_tail(b)
 }
 
 fn is_three(a: u8, b: u8, c: u8) -> bool
     ensures { result ≡ is_three a b c }
 {
-    (a == 0xE0) & ((0xA0 <= b) & (b <= 0xBF)) & ((0x80 <= c) & (c <= 0xBF))
-        | ((0xE1 <= a) & (a <= 0xEC)) & ((0x80 <= b) & (b <= 0xBF)) & ((0x80 <= c) & (c <= 0xBF))
-        | (a == 0xED) & ((0x80 <= b) & (b <= 0x9F)) & ((0x80 <= c) & (c <= 0xBF))
-        | ((0xEE <= a) & (a <= 0xEF)) & ((0x80 <= b) & (b <= 0xBF)) & ((0x80 <= c) & (c <= 0xBF))
+    a == 0xE0 && matches!(b, 0xA0..=0xBF) && is_tail(c)
+        || matches!(a, 0xE1..=0xEC) && is_tail(b) && is_tail(c)
+        || a == 0xED && matches!(b, 0x80..=0x9F) && is_tail(c)
+        || matches!(a, 0xEE..=0xEF) && is_tail(b) && is_tail(c)
 }
 
 fn is_four(a: u8, b: u8, c: u8, d: u8) -> bool
     ensures { result ≡ is_four a b c d }
 {
-    (a == 0xF0)
-        & ((0x90 <= b) & (b <= 0xBF))
-        & ((0x80 <= c) & (c <= 0xBF))
-        & ((0x80 <= d) & (d <= 0xBF))
-        | ((0xF1 <= a) & (a <= 0xF3))
-            & ((0x80 <= b) & (b <= 0xBF))
-            & ((0x80 <= c) & (c <= 0xBF))
-            & ((0x80 <= d) & (d <= 0xBF))
-        | (a == 0xF4)
-            & ((0x80 <= b) & (b <= 0x8F))
-            & ((0x80 <= c) & (c <= 0xBF))
-            & ((0x80 <= d) & (d <= 0xBF))
+    a == 0xF0 && matches!(b, 0x90..=0xBF) && is_tail(c) && is_tail(d)
+        || matches!(a, 0xF1..=0xF3) && is_tail(b) && is_tail(c) && is_tail(d)
+        || a == 0xF4 && matches!(b, 0x80..=0x8F) && is_tail(c) && is_tail(d)
 }
 
 // The byte at i, or 0 past the end.
 fn byte_at(s: &[u8], i: usize) -> u8
     ensures { result ≡ get_or s.now i 0 }
 {
-    if i < s.len() { s[i] } else { 0 }
+    s.get(i).copied().unwrap_or(0)
 }
 
 // How many bytes the character at the front has; 0 where none begins there.
+#[tactic(auto, using(crate::proofs::CharLaws::char_laws))]
 pub fn char_len(s: &[u8]) -> usize
     ensures { result ≡ char_len s.now }
 {
-    if s.len() == 0 {
+    let Some(&a) = s.first() else {
         return 0;
-    }
-    let a = s[0];
+    };
     if a < 0x80 {
         return 1;
     }
@@ -71,67 +62,53 @@ pub fn char_len(s: &[u8]) -> usize
         return 3;
     }
     let d = byte_at(s, 3);
-    if is_four(a, b, c, d) {
-        return 4;
-    }
-    0
+    if is_four(a, b, c, d) { 4 } else { 0 }
 }
 
-// Whether the 64 bytes from `at` on are ASCII. There is no branch: the compiler makes vector comparisons of it.
-fn ascii_near(s: &[u8], at: usize) -> bool
-    requires { at + 64 ≤ length s.now }
-    ensures { result ≡ all is_one (take 64 (drop at s.now)) }
-{
-    let mut ascii = true;
-    let mut k = 0;
-    while k < 64 {
-        ascii = ascii & (s[at + k] <= 0x7F);
-        k += 1;
-    }
-    ascii
-}
-
-// The same of a whole text, byte by byte.
-fn ascii_bytewise(s: &[u8]) -> bool
+// Whether all bytes are ASCII. There is no branch: the compiler makes vector comparisons of it.
+#[inline(always)]
+#[tactic(auto, using(crate::proofs::ReadableLaws::seen_laws))]
+fn all_ascii(s: &[u8]) -> bool
     ensures { result ≡ all is_one s.now }
 {
     let mut ascii = true;
-    let mut i = 0;
-    while i < s.len() {
-        ascii = ascii & (s[i] <= 0x7F);
-        i += 1;
+    for b in s {
+        ascii &= *b <= 0x7F;
     }
     ascii
 }
 
-// Is it ASCII? With 64 bytes at a time. Of the last 64 some may have been seen already: that is quicker than a loop over the rest.
+// Is it ASCII? With 64 bytes at a time. Of the last 64 some may have been seen already: that is
+// quicker than a loop over the rest.
+#[tactic(auto, using(crate::proofs::ReadableLaws::ascii_laws))]
 pub fn is_ascii(s: &[u8]) -> bool
     ensures { result ≡ all is_one s.now }
 {
     let n = s.len();
     if n < 64 {
-        return ascii_bytewise(s);
+        return all_ascii(s);
     }
     let last = n - 64;
     let mut i = 0;
+    // Stays a while: 64 bytes at a time up to the last 64, which overlap them: no chunks do.
     while i < last {
-        if !ascii_near(s, i) {
+        if !all_ascii(&s[i..i + 64]) {
             return false;
         }
         i += 64;
     }
-    ascii_near(s, last)
+    all_ascii(&s[last..])
 }
 
 // Is it UTF-8? Character by character.
-#[tactic(auto, using(crate::proofs::ReadableLaws::readable_ascii))]
+#[tactic(auto, using(crate::proofs::ReadableLaws::readable_laws))]
 pub fn is_utf8(s: &[u8]) -> bool
     ensures { result ≡ readable s.now }
 {
     let mut t = s;
-    while 0 < t.len() {
-        if t[0] < 0x80 {
-            t = &t[1..];
+    while let [first, rest @ ..] = t {
+        if *first < 0x80 {
+            t = rest;
             continue;
         }
         let k = char_len(t);
@@ -144,28 +121,28 @@ pub fn is_utf8(s: &[u8]) -> bool
 }
 
 // The same, for a text that is mostly ASCII, which one quick scan tells.
+#[tactic(auto, using(crate::proofs::ReadableLaws::ascii_readable))]
 pub fn is_readable(s: &[u8]) -> bool
     ensures { result ≡ readable s.now }
 {
-    if is_ascii(s) {
-        return true;
-    }
-    is_utf8(s)
+    is_ascii(s) || is_utf8(s)
 }
 
 // Does a character begin at this place, or the text end there?
+#[tactic(auto, using(crate::proofs::EdgeLaws::edge_laws))]
 pub fn is_edge(s: &[u8], at: usize) -> bool
     ensures { result ≡ is_edge s.now at }
 {
     if at < s.len() {
-        return (at == 0) | !is_tail(s[at]);
+        at == 0 || !is_tail(s[at])
+    } else {
+        at == s.len()
     }
-    at == s.len()
 }
 
 // Is there a slice a..b?
 pub fn has_slice(s: &[u8], a: usize, b: usize) -> bool
     ensures { result ≡ has_slice s.now a b }
 {
-    (a <= b) & (b <= s.len()) & is_edge(s, a) & is_edge(s, b)
+    a <= b && b <= s.len() && is_edge(s, a) && is_edge(s, b)
 }

@@ -4,11 +4,12 @@ use mathlib.Core.List.{List, [], ◌∷◌, ◌++◌}
 use Prim.Native.Nat.{ℕ, zero, suc, ◌+◌, ◌-◌, ◌*◌, ◌/◌, ◌%◌, ◌^◌, ◌≤◌, ◌<◌}
 use native.Mathlib.Nat.{zero-div, zero-mod, mul-mod_left}
 use native.Mathlib.Omega.{arith}
-use mir.Syntax.{w8}
+use mir.Syntax.{w8, w64}
 use mir.Val.{Fits}
 use lib.ListN.{length, get_or, take, drop, replicate}
 use lib.Pow.{pow-add, shl-shr, shr-shr, mod-pow-add, shr_lt}
 use lib.Seq.{get_or-drop}
+use Rattle.std.specs.Int.{from_le_bytes, to_le_bytes}
 use Rattle.word.specs.Word.{bytes, little_endian, number}
 
 pub length_bytes : (n v : ℕ) → length (bytes n v) ≡ suc n
@@ -129,3 +130,23 @@ four v =
     let d2 : v / 65536 ≡ v / 256 / 256 = omega arith in
     let d3 : v / 16777216 ≡ v / 65536 / 256 = omega arith in
     rw (d3, d2)
+
+-- the library's conversions of eight bytes
+pub read_le : (b : List ℕ) → length b ≡ 8 → from_le_bytes w64 b ≡ number b
+unfolding number
+read_le [] h = absurd (let f : ⊥ = omega arith in f)
+read_le (x0 ∷ []) h = absurd (let f : ⊥ = omega arith in f)
+read_le (x0 ∷ x1 ∷ []) h = absurd (let f : ⊥ = omega arith in f)
+read_le (x0 ∷ x1 ∷ x2 ∷ []) h = absurd (let f : ⊥ = omega arith in f)
+read_le (x0 ∷ x1 ∷ x2 ∷ x3 ∷ []) h = absurd (let f : ⊥ = omega arith in f)
+read_le (x0 ∷ x1 ∷ x2 ∷ x3 ∷ x4 ∷ []) h = absurd (let f : ⊥ = omega arith in f)
+read_le (x0 ∷ x1 ∷ x2 ∷ x3 ∷ x4 ∷ x5 ∷ []) h = absurd (let f : ⊥ = omega arith in f)
+read_le (x0 ∷ x1 ∷ x2 ∷ x3 ∷ x4 ∷ x5 ∷ x6 ∷ []) h = absurd (let f : ⊥ = omega arith in f)
+read_le (x0 ∷ x1 ∷ x2 ∷ x3 ∷ x4 ∷ x5 ∷ x6 ∷ x7 ∷ []) h = omega arith
+read_le (x0 ∷ x1 ∷ x2 ∷ x3 ∷ x4 ∷ x5 ∷ x6 ∷ x7 ∷ x8 ∷ l) h = absurd (let f : ⊥ = omega arith in f)
+
+pub written_le : (v : ℕ) → v < 2 ^ 64 → to_le_bytes w64 v ≡ little_endian v
+unfolding bytes
+written_le v h =
+    let top : v / 72057594037927936 % 256 ≡ v / 72057594037927936 = omega arith in
+    rw top (eight v)

@@ -4,42 +4,38 @@
 ghost use Rattle.std.specs.Prelude.{◌≡◌, ◌+◌, ◌≤◌, length, take, drop};
 ghost use Rattle.word.specs.Word.{number};
 
-fn wide(b: u8) -> u64
-    ensures { (result ≡ b) × (result ≤ 255) }
-{
-    b as u64
-}
-
 // The compiler makes one load of it.
 fn eight_at(s: &[u8], at: usize) -> u64
     requires { at + 8 ≤ length s.now }
     ensures { result ≡ number (take 8 (drop at s.now)) }
 {
-    wide(s[at])
-        + 0x100 * wide(s[at + 1])
-        + 0x1_0000 * wide(s[at + 2])
-        + 0x100_0000 * wide(s[at + 3])
-        + 0x1_0000_0000 * wide(s[at + 4])
-        + 0x100_0000_0000 * wide(s[at + 5])
-        + 0x1_0000_0000_0000 * wide(s[at + 6])
-        + 0x100_0000_0000_0000 * wide(s[at + 7])
+    u64::from_le_bytes([
+        s[at],
+        s[at + 1],
+        s[at + 2],
+        s[at + 3],
+        s[at + 4],
+        s[at + 5],
+        s[at + 6],
+        s[at + 7],
+    ])
 }
 
+// The bytes from `at` on, of fewer than eight.
 fn few_at(s: &[u8], at: usize) -> u64
     requires { (at ≤ length s.now) × (length s.now ≤ 7) }
     ensures { result ≡ number (drop at s.now) }
 {
-    let mut i = s.len();
-    let mut w: u64 = 0;
-    while at < i {
-        i -= 1;
-        w = s[i] as u64 + 256 * w;
+    let mut word = 0;
+    for i in (at..s.len()).rev() {
+        word = u64::from(s[i]) + 256 * word;
     }
-    w
+    word
 }
 
-// The word of the bytes from `at` on: of eight, or of as many as there are, with 0 for those that are not there.
-// Near the text's end the last eight are read, and those in front of `at` are shifted out.
+// The word of the bytes from `at` on: of eight, or of as many as there are, with 0 for those that
+// are not there. Near the text's end the last eight are read, and those in front of `at` are
+// shifted out.
 pub fn word_at(s: &[u8], at: usize) -> u64
     ensures { result ≡ number (take 8 (drop at s.now)) }
 {

@@ -1,13 +1,11 @@
-use mathlib.Core.Bool.{true, false}
-use native.Mathlib.Omega.{arith}
-use Rattle.calendar.specs.Calendar.{total, month_length}
-use Rattle.calendar.proofs.Table.{values, at}
+use Rattle.std.proofs.Common.{arith, ◌∙◌}
+use Rattle.calendar.proofs.Months.{month_table}
 use Rattle.calendar.proofs.days_before_month.Goals as goal
+use Rattle.calendar.proofs.days_before_month.Goals.{then-leap, else-leap}
 
-pub returns-then-leap : goal.returns-then-leap
-unfolding values total
-returns-then-leap c = rw c.if-leap.true (at (total (month_length true)) 13 c.args.m (omega arith))
-
-pub returns-else-leap : goal.returns-else-leap
-unfolding values total
-returns-else-leap c = rw c.if-leap.false (at (total (month_length false)) 13 c.args.m (omega arith))
+pub returns : goal.returns
+returns c =
+    elim c.if-leap.branch [
+      | then-leap w ↦ month_table _ _ _ _ (omega arith) (rw w.if-leap.true w.from-is) c.from.ensures
+      | else-leap w ↦ month_table _ _ _ _ (omega arith) (rw w.if-leap.false (w.from-is ∙ w.if-leap.false)) c.from.ensures
+    ]

@@ -1,44 +1,36 @@
-use Rattle.decimal.proofs.Leading.{run_starts, run_end, run_low, run_high, run_many, run_product, run_sum, run_more}
-use borrow.Author.Rules.{rules}
+use Rattle.std.proofs.Common.{◌≡◌, ◌∙◌, sym, get_or, true, arith}
+use Rattle.decimal.specs.Decimal.{is_digit}
+use Rattle.decimal.proofs.Leading.{run_starts, run_end, run_place, run_stops, run_product, run_sum, run_more}
 use Rattle.decimal.proofs.digits_at.Goals as goal
 
-ruleset laws = (run_starts, run_end, run_low, run_high, run_many, run_product, run_sum, run_more)
-
 pub loop-i-init : goal.loop-i-init
-loop-i-init c = search (laws, rules)
+loop-i-init c = run_starts c.args.s.now c.args.at
 
-pub bounds-s-i : goal.bounds-s-i
-bounds-s-i c = search (laws, rules)
-
-pub returns-then-b-lt48 : goal.returns-then-b-lt48
-returns-then-b-lt48 c = search (laws, rules)
-
-pub returns-then-b-gt57 : goal.returns-then-b-gt57
-returns-then-b-gt57 c = search (laws, rules)
-
-pub overflow_sub-i : goal.overflow_sub-i
-overflow_sub-i c = search (laws, rules)
+pub returns-then-not-is_ascii_digit : goal.returns-then-not-is_ascii_digit
+returns-then-not-is_ascii_digit c =
+    let k = c.loop-i in
+    run_stops c.args.s.now c.args.at k.i k.v k.invariant c.loop-i-test.true (sym c.is_ascii_digit.ensures.value ∙ c.if-not-is_ascii_digit.true)
 
 pub overflow_mul-v : goal.overflow_mul-v
-overflow_mul-v c = search (laws, rules)
-
-pub overflow_cast-v : goal.overflow_cast-v
-overflow_cast-v c = search (laws, rules)
-
-pub overflow_sub-v : goal.overflow_sub-v
-overflow_sub-v c = search (laws, rules)
+overflow_mul-v c =
+    let k = c.loop-i in
+    let digit : is_digit (get_or c.args.s.now k.i 0) ≡ true = sym c.is_ascii_digit.ensures.value ∙ c.if-not-is_ascii_digit.false in
+    run_product c.args.s.now c.args.at k.i k.v k.invariant c.loop-i-test.true digit (omega arith)
 
 pub overflow_add-v : goal.overflow_add-v
-overflow_add-v c = search (laws, rules)
-
-pub overflow_add-i : goal.overflow_add-i
-overflow_add-i c = search (laws, rules)
-
-pub loop-i-smaller : goal.loop-i-smaller
-loop-i-smaller c = search (laws, rules)
+overflow_add-v c =
+    let k = c.loop-i in
+    let digit : is_digit (get_or c.args.s.now k.i 0) ≡ true = sym c.is_ascii_digit.ensures.value ∙ c.if-not-is_ascii_digit.false in
+    rw c.from.ensures (run_sum c.args.s.now c.args.at k.i k.v k.invariant c.loop-i-test.true digit (omega arith))
 
 pub loop-i-preserved : goal.loop-i-preserved
-loop-i-preserved c = search (laws, rules)
+loop-i-preserved c =
+    let k = c.loop-i in
+    let digit : is_digit (get_or c.args.s.now k.i 0) ≡ true = sym c.is_ascii_digit.ensures.value ∙ c.if-not-is_ascii_digit.false in
+    rw c.from.ensures (run_more c.args.s.now c.args.at k.i k.v k.invariant c.loop-i-test.true digit (omega arith))
 
 pub returns : goal.returns
-returns c = search (laws, rules)
+returns c =
+    let k = c.loop-i in
+    let behind : c.max.result ≡ k.i = run_place c.args.s.now c.args.at k.i k.v k.invariant c.max.result (omega arith) c.max.ensures in
+    rw behind (run_end c.args.s.now c.args.at k.i k.v k.invariant (omega arith))

@@ -1,11 +1,5 @@
-use mathlib.Core.Path.{◌≡◌}
-use Prim.Native.Nat.{◌-◌, ◌≤◌}
-use lib.ListN.{length}
-use lib.Seq.{paste}
+use Rattle.std.proofs.Common.{◌≡◌, take}
 use Rattle.output.proofs.copy_many.Given as goal
 
 abbrev pub invariant-loop-i : goal.invariant-loop-i
-invariant-loop-i l = (length l.out ≡ length l.initial.out) × (l.i ≤ l.n) × (l.out ≡ paste l.initial.out l.at l.text l.i)
-
-abbrev pub decreases-loop-i : goal.decreases-loop-i
-decreases-loop-i l = l.last - l.i
+invariant-loop-i g l = take l.i l.out ≡ take l.i l.text

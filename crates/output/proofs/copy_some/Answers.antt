@@ -1,12 +1,10 @@
-use Rattle.output.proofs.Output.{four_fits, four_twice}
-use borrow.Author.Rules.{rules}
+use Rattle.std.proofs.Common.{◌-◌, length, refl, arith}
+use Rattle.output.proofs.Copying.{step_copied, fewer, last_copied}
 use Rattle.output.proofs.copy_some.Goals as goal
 
-pub put_four-requires : goal.put_four-requires
-put_four-requires c = search (four_fits, rules)
-
-pub put_four-requires-2 : goal.put_four-requires-2
-put_four-requires-2 c = search (four_fits, rules)
-
 pub returns : goal.returns
-returns c = search four_twice
+returns c =
+    let t = c.args.text.now in
+    let first = step_copied t c.args.out.now c.copy_step.new.out 0 4 (omega arith) (omega arith) refl c.copy_step.ensures in
+    let front = fewer t c.copy_step.new.out 4 (length t - 4) (omega arith) first in
+    last_copied t c.copy_step.new.out c.copy_step-2.new.out (length t - 4) 4 (omega arith) (omega arith) (omega arith) front c.copy_step-2.ensures

@@ -1,33 +1,6 @@
-use mathlib.Core.Path.{refl}
-use Rattle.scan.proofs.SearchLaws.{found_here, found_nowhere, found_later}
-use borrow.Author.Rules.{rules}
+use Rattle.std.proofs.Common.{arith}
+use Rattle.scan.proofs.SearchLaws.{found_nowhere}
 use Rattle.scan.proofs.find.Goals as goal
 
-ruleset laws = (refl, found_here, found_nowhere, found_later)
-
-pub loop-at-init : goal.loop-at-init
-loop-at-init c = search (laws, rules)
-
-pub slice_bounds-starts_with-count : goal.slice_bounds-starts_with-count
-slice_bounds-starts_with-count c = search (laws, rules)
-
-pub slice_bounds-starts_with-start : goal.slice_bounds-starts_with-start
-slice_bounds-starts_with-start c = search (laws, rules)
-
-pub slice_bounds-starts_with-end : goal.slice_bounds-starts_with-end
-slice_bounds-starts_with-end c = search (laws, rules)
-
-pub starts_with-requires : goal.starts_with-requires
-starts_with-requires c = search (laws, rules)
-
-pub returns-then-starts_with : goal.returns-then-starts_with
-returns-then-starts_with c = search (laws, rules)
-
-pub overflow_add-at : goal.overflow_add-at
-overflow_add-at c = search (laws, rules)
-
-pub loop-at-smaller : goal.loop-at-smaller
-loop-at-smaller c = search (laws, rules)
-
-pub loop-at-preserved : goal.loop-at-preserved
-loop-at-preserved c = search (laws, rules)
+pub returns-else-starts_with : goal.returns-else-starts_with
+returns-else-starts_with c = found_nowhere _ _ _ c.loop-at.invariant (omega arith) _ c.starts_with.ensures c.if-starts_with.false

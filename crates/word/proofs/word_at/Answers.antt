@@ -12,4 +12,4 @@ returns-then-s-lt8 c = let a = c.args in few a.s.now a.at c.few_at.result (omega
 pub returns : goal.returns
 returns c =
     let a = c.args in
-    late a.s.now a.at c.eight_at-2.result c.shared_slice_known-1.given (omega arith) (omega arith) c.eight_at-2.ensures
+    late a.s.now a.at c.eight_at-2.result c.type_inv.s (omega arith) (omega arith) c.eight_at-2.ensures

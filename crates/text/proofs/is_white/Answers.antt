@@ -1,7 +1,0 @@
-use mathlib.Core.Path.{refl}
-use Rattle.text.specs.White.{is_white}
-use Rattle.text.proofs.is_white.Goals as goal
-
-pub returns : goal.returns
-unfolding is_white
-returns c = refl
