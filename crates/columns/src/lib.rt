@@ -4,8 +4,6 @@
 ghost use Rattle.std.specs.Prelude.{◌≡◌, ◌-◌};
 ghost use Rattle.columns.specs.Columns.{words_begin, place, are_rising, column_header, shift_left};
 
-use scan::Word;
-
 // Offsets in bytes; those of a column header rise.
 #[derive(Clone, Copy)]
 pub struct Columns {
@@ -16,18 +14,6 @@ pub struct Columns {
     pub path: usize,
 }
 
-#[derive(Clone, Copy)]
-pub enum ColumnsRead {
-    Found(Columns),
-    Nothing,
-}
-
-#[derive(Clone, Copy)]
-enum Place {
-    At(usize),
-    Nothing,
-}
-
 // Do the words of the name stand at the front of the line's words from `at` on?
 fn words_begin(line: &[u8], at: usize, name: &[u8]) -> bool
     ensures { result ≡ words_begin name.now line.now at }
@@ -35,10 +21,10 @@ fn words_begin(line: &[u8], at: usize, name: &[u8]) -> bool
     let mut i = at;
     let mut j = 0;
     let all = 'name: loop {
-        let Word::At(a, b) = scan::next_word(name, j) else {
+        let Some((a, b)) = scan::next_word(name, j) else {
             break 'name true;
         };
-        let Word::At(c, d) = scan::next_word(line, i) else {
+        let Some((c, d)) = scan::next_word(line, i) else {
             break 'name false;
         };
         if !scan::same(&line[c..d], &name[a..b]) {
@@ -51,18 +37,18 @@ fn words_begin(line: &[u8], at: usize, name: &[u8]) -> bool
 }
 
 // Where the name stands in the line; of repeated names the last counts.
-fn last_place(line: &[u8], name: &[u8]) -> Place
+fn last_place(line: &[u8], name: &[u8]) -> Option<usize>
     ensures { result ≡ place name.now line.now }
 {
-    let mut found = Place::Nothing;
+    let mut found = None;
     let mut at = 0;
     loop {
-        let Word::At(start, end) = scan::next_word(line, at) else {
+        let Some((start, end)) = scan::next_word(line, at) else {
             return found;
         };
         at = end;
         if words_begin(line, start, name) {
-            found = Place::At(start);
+            found = Some(start);
         }
     }
 }
@@ -76,23 +62,23 @@ pub fn are_rising(c: Columns) -> bool
         & (c.weight < c.path)
 }
 
-pub fn parse_column_header(line: &[u8]) -> ColumnsRead
+pub fn parse_column_header(line: &[u8]) -> Option<Columns>
     ensures { result ≡ column_header line.now }
 {
-    let Place::At(next_hop) = last_place(line, b"Next Hop") else {
-        return ColumnsRead::Nothing;
+    let Some(next_hop) = last_place(line, b"Next Hop") else {
+        return None;
     };
-    let Place::At(metric) = last_place(line, b"Metric") else {
-        return ColumnsRead::Nothing;
+    let Some(metric) = last_place(line, b"Metric") else {
+        return None;
     };
-    let Place::At(local_pref) = last_place(line, b"LocPrf") else {
-        return ColumnsRead::Nothing;
+    let Some(local_pref) = last_place(line, b"LocPrf") else {
+        return None;
     };
-    let Place::At(weight) = last_place(line, b"Weight") else {
-        return ColumnsRead::Nothing;
+    let Some(weight) = last_place(line, b"Weight") else {
+        return None;
     };
-    let Place::At(path) = last_place(line, b"Path") else {
-        return ColumnsRead::Nothing;
+    let Some(path) = last_place(line, b"Path") else {
+        return None;
     };
     let c = Columns {
         next_hop,
@@ -101,31 +87,20 @@ pub fn parse_column_header(line: &[u8]) -> ColumnsRead
         weight,
         path,
     };
-    if are_rising(c) {
-        ColumnsRead::Found(c)
-    } else {
-        ColumnsRead::Nothing
-    }
+    if are_rising(c) { Some(c) } else { None }
 }
 
-// One less; 0 stays.
-fn one_less(n: usize) -> usize
-    ensures { result ≡ n - 1 }
-{
-    if n == 0 { 0 } else { n - 1 }
-}
-
-pub fn shift_columns_left(c: Columns) -> ColumnsRead
+pub fn shift_columns_left(c: Columns) -> Option<Columns>
     ensures { result ≡ shift_left c }
 {
     if c.next_hop == 0 {
-        return ColumnsRead::Nothing;
+        return None;
     }
-    ColumnsRead::Found(Columns {
+    Some(Columns {
         next_hop: c.next_hop - 1,
-        metric: one_less(c.metric),
-        local_pref: one_less(c.local_pref),
-        weight: one_less(c.weight),
-        path: one_less(c.path),
+        metric: c.metric.saturating_sub(1),
+        local_pref: c.local_pref.saturating_sub(1),
+        weight: c.weight.saturating_sub(1),
+        path: c.path.saturating_sub(1),
     })
 }

@@ -4,7 +4,6 @@
 ghost use Rattle.std.specs.Prelude.{◌≡◌};
 ghost use Rattle.elem.specs.Element.{spoilt};
 
-use decimal::U32Read;
 use network::{Asn, IpAddr, NetworkPrefix};
 
 #[derive(Clone, Copy)]
@@ -12,18 +11,6 @@ pub enum Origin {
     IGP,
     EGP,
     INCOMPLETE,
-}
-
-#[derive(Clone, Copy)]
-pub enum OptOrigin {
-    Known(Origin),
-    Nothing,
-}
-
-#[derive(Clone, Copy)]
-pub enum OptAsn {
-    Known(Asn),
-    Nothing,
 }
 
 // Its AS numbers are the first `count` of a list that is lent along with it.
@@ -36,10 +23,10 @@ pub struct Element {
     pub prefix: NetworkPrefix,
     pub next_hop: IpAddr,
     pub count: usize,
-    pub origin_asn: OptAsn,
-    pub local_pref: U32Read,
-    pub metric: U32Read,
-    pub origin: OptOrigin,
+    pub origin_asn: Option<Asn>,
+    pub local_pref: Option<u32>,
+    pub metric: Option<u32>,
+    pub origin: Option<Origin>,
 }
 
 pub fn is_spoilt_element(e: Element, asns: &[u32]) -> bool

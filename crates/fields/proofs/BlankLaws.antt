@@ -1,36 +1,50 @@
 -- Laws of columns that are blank or hold a number: the spaces in front are passed over.
-use Rattle.std.proofs.Common.{◌≡◌, ℕ, suc, ◌+◌, ◌-◌, ◌<◌, ◌≤◌, Bool, true, false, cond, eqb, List, [], ◌∷◌, ◌++◌, reverse, length, get_or, take, drop, sym, refl, ap, ◌∙◌, add-one, arith, length-drop, drop_of_length-le, take_all, drop-cons, ne_eqb}
+use Rattle.std.proofs.Common.{◌≡◌, ℕ, zero, suc, Option, Some, None, is_none, ◌-◌, ◌<◌, ◌≤◌, Bool, true, false, cond, not, eqb, eqb-true, List, [], ◌∷◌, ◌++◌, reverse, length, get_or, take, drop, sym, refl, ap, ◌∙◌, arith, length-drop, take_all, drop-cons, ne_eqb}
+use Rattle.std.specs.List.{position}
+use Rattle.std.proofs.lemmas.List.Quantifiers.{position-Some}
+use borrow.Author.Tests.{not-false}
 use mathlib.Core.List.{reverse-cons, nil≢cons}
 use lib.ListN.{length-reverse}
 use Rattle.scan.specs.Lists.{drop_while}
 use Rattle.scan.proofs.ListLaws.{drop_while_head}
-use Rattle.utf8.specs.Utf8.{within, all, chars_from, chars}
+use Rattle.utf8.specs.Utf8.{all, chars_from, chars}
 use Rattle.decimal.specs.Decimal.{unsigned, read_u32}
-use Rattle.decimal.specs.declared.U32Read.{U32Read}
-use Rattle.decimal.specs.declared.U32Read.TheVariants.{Nothing}
 use Rattle.text.specs.White.{is_space, trim_start, drop_while_end, trim_end, trim}
 use Rattle.text.proofs.TrimLaws.{trim_is, chars_skip, chars_trim_end}
-use Rattle.text.proofs.WhiteLaws.{front_visible, start_stop}
+use Rattle.text.proofs.WhiteLaws.{front_seen, start_stop}
 use Rattle.fields.specs.Fronts.{is_blank}
-use Rattle.fields.proofs.SpaceLaws.{front_space, none_end, spaces_trim}
+use Rattle.fields.proofs.SpaceLaws.{front_space, none_end, spaces_trim, ink_none}
 
--- a text trimmed at both ends, by what is left of it at the front
-module _ (s : List ℕ) (i : ℕ) (e : trim_start s ≡ trim_start (drop i s)) where
-  from : trim s ≡ trim (drop i s)
-  from = trim_is s ∙ ap trim_end e ∙ sym (trim_is (drop i s))
+-- the spaces at the front are passed over
+passed : (s : List ℕ) (i : ℕ) → i ≤ length s → ((k : ℕ) → k < i → not (is_blank (get_or s k 0)) ≡ false) → trim_start s ≡ trim_start (drop i s)
+passed s zero h f = refl
+passed s (suc i) h f =
+    let y : get_or s i 0 ≡ 32 = eqb-true (get_or s i 0) 32 (not-false (is_blank (get_or s i 0)) (f i (omega arith))) in
+    let l : i < length s = omega arith in
+    passed s i (omega arith) (λ k m. f k (omega arith)) ∙ rw (drop-cons s i 0 l, y) (front_space (drop (suc i) s))
 
-  pub number_later : i < length s → get_or s i 0 ≡ 32 → trim_start s ≡ trim_start (drop (i + 1) s)
-  number_later h y = e ∙ rw (add-one, drop-cons s i 0 h, y) (front_space (drop (suc i) s))
+module _ (s : List ℕ) (f : Option ℕ) (q : f ≡ position (λ b. not (is_blank b)) s) where
+  module _ (i : ℕ) (y : f ≡ Some i) where
+    pub ink_inside : i < length s
+    ink_inside = (position-Some (λ b. not (is_blank b)) s i 0 (sym q ∙ y)).0
 
-  pub number_here : (r : U32Read) → r ≡ read_u32 (trim (take (length s - i) (drop i s))) → r ≡ read_u32 (trim s)
-  number_here r f = f ∙ ap read_u32 (ap trim (take_all (length s - i) (drop i s) (simp length-drop (omega arith))) ∙ sym from)
+    trimmed : trim s ≡ trim (take (length s - i) (drop i s))
+    trimmed =
+        let h = position-Some (λ b. not (is_blank b)) s i 0 (sym q ∙ y) in
+        trim_is s
+        ∙ ap trim_end (passed s i (omega (arith, h.0)) h.2)
+        ∙ sym (trim_is (drop i s))
+        ∙ ap trim (sym (take_all (length s - i) (drop i s) (simp length-drop (omega arith))))
 
-  pub number_none : length s ≤ i → Nothing ≡ read_u32 (trim s)
+    pub number_here : (r : Option ℕ) → r ≡ read_u32 (trim (take (length s - i) (drop i s))) → r ≡ read_u32 (trim s)
+    number_here r e = e ∙ ap read_u32 (sym trimmed)
+
+  pub number_none : f ≡ None → None ≡ read_u32 (trim s)
   unfolding all unsigned
-  number_none h = sym (ap read_u32 (from ∙ ap trim (drop_of_length-le s h) ∙ spaces_trim [] refl))
+  number_none y = sym (ap read_u32 (spaces_trim s (sym (ink_none s f q) ∙ ap is_none y)))
 
 -- nothing but spaces, in a text of n bytes
-pub number_blank : (s : List ℕ) (n : ℕ) (r : Bool) → length s ≡ n → r ≡ all is_blank (take n (drop 0 s)) → r ≡ true → Nothing ≡ read_u32 (trim s)
+pub number_blank : (s : List ℕ) (n : ℕ) (r : Bool) → length s ≡ n → r ≡ all is_blank (take n s) → r ≡ true → None ≡ read_u32 (trim s)
 unfolding all unsigned
 number_blank s n r h e f = sym (ap read_u32 (spaces_trim s (ap (all is_blank) (sym (take_all n s (omega arith))) ∙ sym e ∙ f)))
 
@@ -75,7 +89,12 @@ blank_start s x e = rw (e, trim_is s) (go (chars (trim_start s)) refl)
         let k : 0 < length (trim_start s) = some_bytes (trim_start s) (rw f (omega arith)) in
         ne_eqb (length (trim_start s)) 0 (λ z. omega arith) ∙ sym (ne_eqb (length (trim_end (trim_start s))) 0 (λ z. omega arith))
 
-pub blank_visible : (s : List ℕ) → 0 < length s → within 0x21 0x7E (get_or s 0 0) ≡ true → false ≡ eqb (length (trim s)) 0
-blank_visible s h v =
+pub blank_visible : (s : List ℕ) → 0 < length s → 0x21 ≤ get_or s 0 0 → get_or s 0 0 ≤ 0x7E → false ≡ eqb (length (trim s)) 0
+blank_visible s h l m =
     sym (ne_eqb (length s) 0 (λ z. omega arith))
-    ∙ blank_start s s (sym (start_stop s 0 (front_visible s h v) refl))
+    ∙ blank_start s s (sym (start_stop s 0 (front_seen s h l m) refl))
+
+-- what the test of a blank column and the number behind spaces use
+pub ruleset blank_laws = (blank_visible, blank_spaces, blank_start)
+
+pub ruleset later_laws = (ink_inside, number_here, number_none)

@@ -1,27 +1,23 @@
 -- Laws of a number at the front of a text with spaces behind it.
+use Rattle.std.specs.Prelude.{Option, Some}
 use Rattle.std.proofs.Common.{◌≡◌, ℕ, ◌-◌, ◌^◌, ◌<◌, ◌≤◌, Bool, true, List, length, get_or, take, drop, sym, ap, ◌∙◌, arith, length-take-le, get_or-take, lt-ltb}
-use mathlib.Core.Option.{some}
 use Rattle.utf8.specs.Utf8.{all}
 use Rattle.text.specs.White.{trim}
 use Rattle.decimal.specs.Decimal.{is_digit, behind, digits, unsigned, read_u32, digits_at}
-use Rattle.decimal.specs.declared.U32Read.{U32Read}
-use Rattle.decimal.specs.declared.U32Read.TheVariants.{Number}
-use Rattle.decimal.specs.declared.DigitsRead.{DigitsRead}
-use Rattle.decimal.specs.declared.DigitsRead.TheVariants.{Digits}
 use Rattle.decimal.proofs.Laws.{unsigned_digits}
 use Rattle.decimal.proofs.Reading.{start}
 use Rattle.decimal.proofs.Leading.{Run, digit_in, digits_run, run_small}
 use Rattle.fields.specs.Fronts.{is_blank, DigitsAround}
 use Rattle.fields.proofs.FieldLaws.{trimmed}
 
-module _ (s : List ℕ) (w : DigitsRead) (q : w ≡ digits_at s 0) (v e : ℕ) (f : w ≡ Digits v e) (h : 0 < e) where
+module _ (s : List ℕ) (w : Option (ℕ × ℕ)) (q : w ≡ digits_at s 0) (v e : ℕ) (f : w ≡ Some (v, e)) (h : 0 < e) where
   run : Run s 0 e v
   run = digits_run s 0 w q v e f
 
   pub number_inside : e ≤ length s
   number_inside = run.inside h
 
-  value : behind 0 (take e s) ≡ some v
+  value : behind 0 (take e s) ≡ Some v
   value = let z : e - 0 ≡ e = omega arith in rw z at run.value
 
   size : length (take e s) ≡ e
@@ -33,11 +29,14 @@ module _ (s : List ℕ) (w : DigitsRead) (q : w ≡ digits_at s 0) (v e : ℕ) (
   around : DigitsAround s 0 e
   around = record { some_byte = h; inside = number_inside; first = digit_at 0 h; last = digit_at (e - 1) (omega arith) }
 
-  pub number_field : (z : Bool) → z ≡ all is_blank (drop e s) → z ≡ true → Number v ≡ read_u32 (trim s)
+  pub number_field : (z : Bool) → z ≡ all is_blank (drop e s) → z ≡ true → Some v ≡ read_u32 (trim s)
   number_field z g y =
-      let d : digits (take e s) ≡ some v = start (take e s) (λ n. omega (arith, size)) ∙ value in
-      let u : unsigned (trim s) ≡ some v = ap unsigned (trimmed s e around z g y) ∙ unsigned_digits v (take e s) d in
+      let d : digits (take e s) ≡ Some v = start (take e s) (λ n. omega (arith, size)) ∙ value in
+      let u : unsigned (trim s) ≡ Some v = ap unsigned (trimmed s e around z g y) ∙ unsigned_digits v (take e s) d in
       simp (u, lt-ltb v (2 ^ 32) (omega (arith, run_small s 0 e v run 9 run.few)))
 
-pub number_plain : (s x : List ℕ) (r : U32Read) → x ≡ trim s → r ≡ read_u32 x → r ≡ read_u32 (trim s)
+pub number_plain : (s x : List ℕ) (r : Option ℕ) → x ≡ trim s → r ≡ read_u32 x → r ≡ read_u32 (trim s)
 number_plain s x r e f = f ∙ ap read_u32 e
+
+-- what reading a number uses
+pub ruleset number_laws = (number_inside, number_field, number_plain)

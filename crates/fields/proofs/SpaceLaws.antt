@@ -1,5 +1,7 @@
 -- Laws of spaces: a text of spaces alone, and spaces behind a text, as the loops meet them and as trimming does.
-use Rattle.std.proofs.Common.{◌≡◌, ℕ, ◌+◌, ◌-◌, ◌<◌, ◌≤◌, Bool, true, false, not, ◌&&◌, List, [], ◌∷◌, ◌++◌, length, get_or, take, drop, sym, refl, ap, ◌∙◌, append_assoc, append-nil, add-one, arith, length-append, length-drop, take-append-drop, drop_of_length-le, get_or-drop, drop-cons, take-suc, drop-drop, take_at, eq-eqb, ne_eqb, eqb-true, le-leb}
+use Rattle.std.proofs.Common.{◌≡◌, ℕ, ◌+◌, ◌-◌, ◌<◌, ◌≤◌, Option, Some, None, is_some, is_none, Bool, true, false, cond, not, ◌&&◌, List, [], ◌∷◌, ◌++◌, length, get_or, take, drop, sym, refl, ap, ◌∙◌, append_assoc, append-nil, add-one, arith, length-append, length-drop, take-append-drop, take-suc, take_all, drop-drop, take_at, eqb-true, le-leb}
+use Rattle.std.specs.List.{position, position_from}
+use Rattle.std.proofs.lemmas.Iterator.Adapters.{position_from-zero}
 use mathlib.Core.Bool.{and-true}
 use lib.Seq.{get_or_at}
 use borrow.Author.Tests.{not-true, not-false}
@@ -14,51 +16,64 @@ use Rattle.text.proofs.WhiteLaws.{front_visible, back_white, back_visible, gap_w
 use Rattle.text.proofs.WhiteLaws.{front_space as space_first}
 use Rattle.fields.specs.Fronts.{is_blank, DigitsAround}
 
--- the test of n bytes: the first k of them are seen
-pub near_none : (s : List ℕ) (at : ℕ) → true ≡ all is_blank (take 0 (drop at s))
+-- the first k bytes are seen
+pub near_none : true ≡ all is_blank []
 unfolding all
-near_none s at = refl
+near_none = refl
 
-module _ (s : List ℕ) (at n k : ℕ) (near : Bool) (e : near ≡ all is_blank (take k (drop at s))) where
-  pub near_more : at + n ≤ length s → k < n → (near && is_blank (get_or s (at + k) 0)) ≡ all is_blank (take (k + 1) (drop at s))
+module _ (s : List ℕ) (k : ℕ) (near : Bool) (e : near ≡ all is_blank (take k s)) where
+  pub near_more : k < length s → (near && is_blank (get_or s k 0)) ≡ all is_blank (take (k + 1) s)
   unfolding all
-  near_more h l =
-      let m : k < length (drop at s) = rw length-drop (omega arith) in
-      sym (rw (add-one, take-suc (drop at s) k 0 m, all_append, get_or-drop, ← e) (rw and-true))
+  near_more h = sym (rw (add-one, take-suc s k 0 h, all_append, ← e) (rw and-true))
 
-  pub near_all : k ≤ n → n ≤ k → near ≡ all is_blank (take n (drop at s))
-  near_all h l = let z : k ≡ n = omega arith in rw z at e
+  pub near_all : length s ≤ k → near ≡ all is_blank s
+  near_all h = e ∙ ap (all is_blank) (take_all k s h)
+
+-- all are spaces where no byte is none
+none_from : (n : ℕ) (s : List ℕ) → is_none (position_from (λ b. not (is_blank b)) n s) ≡ all is_blank s
+unfolding all
+none_from n [] = refl
+none_from n (b ∷ s) = go (is_blank b) (none_from (n + 1) s)
+  where
+    go : (t : Bool) → is_none (position_from (λ b. not (is_blank b)) (n + 1) s) ≡ all is_blank s
+        → is_none (cond (not t) (Some n) (position_from (λ b. not (is_blank b)) (n + 1) s)) ≡ (t && all is_blank s)
+    go true e = e
+    go false e = refl
+
+pub ink_none : (s : List ℕ) (f : Option ℕ) → f ≡ position (λ b. not (is_blank b)) s → is_none f ≡ all is_blank s
+ink_none s f q = ap is_none (q ∙ position_from-zero (λ b. not (is_blank b)) s) ∙ none_from 0 s
+
+none_is : (f : Option ℕ) (z : Bool) → is_some f ≡ not z → z ≡ is_none f
+none_is None true n = refl
+none_is None false n = cc
+none_is (Some i) true n = cc
+none_is (Some i) false n = refl
 
 -- from `at` on all are spaces if from i on all are
 module _ (s : List ℕ) (at i : ℕ) (e : all is_blank (drop at s) ≡ all is_blank (drop i s)) where
-  pub spaces_end : length s ≤ i → true ≡ all is_blank (drop at s)
-  unfolding all
-  spaces_end h = sym (e ∙ rw (drop_of_length-le s h))
+  pub spaces_left : (f : Option ℕ) (z : Bool) → f ≡ position (λ b. not (is_blank b)) (take (length s - i) (drop i s)) → is_some f ≡ not z → z ≡ all is_blank (drop at s)
+  spaces_left f z q n =
+      none_is f z n
+      ∙ ink_none (take (length s - i) (drop i s)) f q
+      ∙ ap (all is_blank) (take_all (length s - i) (drop i s) (rw length-drop (omega arith)))
+      ∙ sym e
 
-  pub spaces_other : i < length s → (get_or s i 0 ≡ 32 → ⊥) → false ≡ all is_blank (drop at s)
-  unfolding all
-  spaces_other h n = sym (e ∙ rw (drop-cons s i 0 h, ne_eqb (get_or s i 0) 32 n))
+  -- and 8 bytes at a time
+  module _ (r : Bool) (q : r ≡ all is_blank (take (i + 8 - i) (drop i s))) where
+    eight : r ≡ all is_blank (take 8 (drop i s))
+    eight = let z : i + 8 - i ≡ 8 = omega arith in rw z at q
 
-  pub spaces_more : i < length s → get_or s i 0 ≡ 32 → all is_blank (drop at s) ≡ all is_blank (drop (i + 1) s)
-  unfolding all
-  spaces_more h y = e ∙ rw (add-one, drop-cons s i 0 h, eq-eqb (get_or s i 0) 32 y)
-
-  pub spaces_from : (r : Bool) → r ≡ all is_blank (drop i s) → r ≡ all is_blank (drop at s)
-  spaces_from r q = q ∙ sym e
-
-  -- and n bytes at a time
-  module _ (n : ℕ) (r : Bool) (q : r ≡ all is_blank (take n (drop i s))) where
-    parted : all is_blank (drop at s) ≡ (r && all is_blank (drop (i + n) s))
+    parted : all is_blank (drop at s) ≡ (r && all is_blank (drop (i + 8) s))
     parted =
         e
-        ∙ ap (all is_blank) (sym (take-append-drop n (drop i s)))
-        ∙ all_append is_blank (take n (drop i s)) (drop n (drop i s))
-        ∙ rw (← q, drop-drop n i s)
+        ∙ ap (all is_blank) (sym (take-append-drop 8 (drop i s)))
+        ∙ all_append is_blank (take 8 (drop i s)) (drop 8 (drop i s))
+        ∙ rw (← eight, drop-drop 8 i s)
 
     pub spaces_none : not r ≡ true → false ≡ all is_blank (drop at s)
     spaces_none f = sym (parted ∙ rw (not-true r f))
 
-    pub spaces_far : not r ≡ false → all is_blank (drop at s) ≡ all is_blank (drop (i + n) s)
+    pub spaces_far : not r ≡ false → all is_blank (drop at s) ≡ all is_blank (drop (i + 8) s)
     spaces_far f = parted ∙ rw (not-false r f)
 
 -- spaces at the front are trimmed
@@ -111,3 +126,8 @@ digits_trim t d =
     trim_is t
     ∙ ap trim_end (start_stop t 0 (front_visible t d.some_byte (digit_visible (get_or t 0 0) d.first)) refl)
     ∙ end_stop t 0 (back_visible t d.some_byte (digit_visible (get_or t (length t - 1) 0) d.last)) refl
+
+-- what the loops use
+pub ruleset near_laws = (near_none, near_more, near_all)
+
+pub ruleset all_laws = (spaces_left, spaces_none, spaces_far)

@@ -1,16 +1,10 @@
--- What the quick ways may say: that an octet, an address, a length stands at a place. Where they say nothing, nothing is known.
-use Rattle.std.specs.Prelude.{◌≡◌, ℕ, ◌+◌, ◌-◌, ◌<◌, ◌≤◌, Bool, true, List, length, take, ◌==◌, slice_index, slice_index_or}
-use Rattle.std.proofs.Math.Option.{some}
+-- What the quick ways may say: that an octet, an address, a length stands at a place. Where they
+-- say nothing, nothing is known.
+use Rattle.std.specs.Prelude.{◌≡◌, ℕ, ◌+◌, ◌-◌, ◌<◌, ◌≤◌, Bool, true, List, length, take, ◌==◌, slice_index, slice_index_or, Some}
 use Rattle.std.proofs.Math.Seq.{slice}
 use Rattle.decimal.specs.Decimal.{is_digit}
 use Rattle.ipv4.specs.Ipv4.{octet, ipv4}
 use Rattle.network.specs.Prefix.{length_of}
-use Rattle.fields.specs.declared.OctetRead.{OctetRead}
-use Rattle.fields.specs.declared.OctetRead.TheVariants.{Octet}
-use Rattle.fields.specs.declared.FrontRead.{FrontRead}
-use Rattle.fields.specs.declared.FrontRead.TheVariants.{Address}
-use Rattle.fields.specs.declared.BitsRead.{BitsRead}
-use Rattle.fields.specs.declared.BitsRead.TheVariants.{Bits}
 
 -- the space that columns are filled with
 abbrev pub is_blank : ℕ → Bool
@@ -27,24 +21,15 @@ pub record DigitsAround (s : List ℕ) (a e : ℕ) : Type 0 where
 pub record OctetAt (s : List ℕ) (a e v : ℕ) : Type 0 where
   pub around : DigitsAround s a e
   pub short : e ≤ a + 3
-  pub value : octet (slice a e s) ≡ some v
-
-pub record ToldOctet (s : List ℕ) (a : ℕ) (r : OctetRead) : Type 0 where
-  pub octet_told : (v e : ℕ) → r ≡ Octet v e → OctetAt s a e v
+  pub value : octet (slice a e s) ≡ Some v
 
 -- the address v stands at the front, up to e
 pub record AddressTo (s : List ℕ) (e v : ℕ) : Type 0 where
   pub around : DigitsAround s 0 e
-  pub value : ipv4 (take e s) ≡ some v
-
-pub record ToldAddress (s : List ℕ) (r : FrontRead) : Type 0 where
-  pub address_told : (v e : ℕ) → r ≡ Address v e → AddressTo s e v
+  pub value : ipv4 (take e s) ≡ Some v
 
 -- a '/' stands at a, and behind it up to f the length n
 pub record BitsAt (s : List ℕ) (a f n : ℕ) : Type 0 where
   pub mark : slice_index_or s a 0 ≡ 47
   pub around : DigitsAround s (a + 1) f
-  pub value : length_of 2 32 (slice (a + 1) f s) ≡ some n
-
-pub record ToldBits (s : List ℕ) (a : ℕ) (r : BitsRead) : Type 0 where
-  pub bits_told : (n f : ℕ) → r ≡ Bits n f → BitsAt s a f n
+  pub value : length_of 2 32 (slice (a + 1) f s) ≡ Some n

@@ -2,8 +2,9 @@
 use mathlib.Core.Path.{◌≡◌, refl, sym, ap, ◌∙◌}
 use mathlib.Core.List.{List, [], ◌∷◌}
 use mathlib.Core.Bool.{Bool, true, false, cond, not, ◌&&◌, and-false}
-use mathlib.Core.Option.{Option, some, none}
-use Prim.Native.Nat.{ℕ, suc, ◌+◌, ◌-◌, ◌*◌, ◌^◌, ◌≤◌, ◌<◌}
+use Rattle.std.specs.Prelude.{Option, Some, None}
+use Rattle.std.proofs.lemmas.Option.{some_pair_parts}
+use Prim.Native.Nat.{ℕ, zero, suc, ◌+◌, ◌-◌, ◌*◌, ◌^◌, ◌≤◌, ◌<◌}
 use native.Mathlib.Numerals.{add-one}
 use native.Mathlib.Nat.{zero-add}
 use native.Mathlib.Omega.{arith}
@@ -12,14 +13,11 @@ use lib.Seq.{drop-drop}
 use mir.Syntax.{w32}
 use mir.Val.{Fits}
 use lib.Dec.{eqb, leb, ltb}
-use borrow.Author.Tests.{le-ltb, lt-ltb, lt-leb, le-leb, eq-eqb, ne_eqb, ltb-true, eqb-true}
+use borrow.Author.Tests.{le-ltb, lt-ltb, lt-leb, le-leb, eq-eqb, ne_eqb, ltb-true, eqb-true, leb-true, leb-false}
 use Rattle.decimal.specs.Decimal.{is_digit, behind, digits, below}
 use Rattle.decimal.proofs.Laws.{too_big}
 use Rattle.ipv4.specs.Parts.{parts, before, prepend, each, number}
-use Rattle.ipv4.specs.Ipv4.{leading_zero, octet, four, ipv4, as_ipv4, placed, octet_at}
-use Rattle.ipv4.specs.declared.OctetRead.{OctetRead}
-use Rattle.ipv4.specs.declared.OctetRead.TheVariants.{Octet, Nothing as NoOctet}
-use Rattle.ipv4.specs.declared.Ipv4Read.TheVariants.{Address, Nothing}
+use Rattle.ipv4.specs.Ipv4.{leading_zero, octet, four, ipv4, placed, octet_at}
 use Rattle.ipv4.proofs.Parts.{each_small, number_grows, number_room, before_here, before_end, before_step, before_first, parts_last, parts_more, parts_cons, later}
 
 -- the digits of a part that has some
@@ -28,47 +26,59 @@ unfolding digits
 digits_some [] h = absurd (h refl)
 digits_some (b ∷ p) h = refl
 
-digits_none : (p : List ℕ) → below 256 (behind 0 p) ≡ none → below 256 (digits p) ≡ none
+digits_none : (p : List ℕ) → below 256 (behind 0 p) ≡ None → below 256 (digits p) ≡ None
 unfolding digits
 digits_none [] h = refl
 digits_none (b ∷ p) h = h
 
-no_octet : (p : List ℕ) → below 256 (digits p) ≡ none → octet p ≡ none
+no_octet : (p : List ℕ) → below 256 (digits p) ≡ None → octet p ≡ None
 unfolding octet
 no_octet p h = rw h (go (leb (length p) 3 && not (leading_zero p)))
   where
-    go : (t : Bool) → cond {A = Option ℕ} t none none ≡ none
+    go : (t : Bool) → cond {A = Option ℕ} t None None ≡ None
     go true = refl
     go false = refl
 
 -- the digits read: their octet
-module _ (s : List ℕ) (at end v : ℕ) (hl : at + length (before 46 (drop at s)) ≡ end) (hd : behind 0 (before 46 (drop at s)) ≡ some v) (hv : v ≤ 255) where
-  pub octet_empty : end - at ≡ 0 → NoOctet ≡ octet_at at (drop at s)
+module _ (s : List ℕ) (at end v : ℕ) (hl : at + length (before 46 (drop at s)) ≡ end) (hd : behind 0 (before 46 (drop at s)) ≡ Some v) (hv : v ≤ 255) where
+  pub octet_empty : end - at ≡ 0 → None ≡ octet_at at (drop at s)
   unfolding digits
   octet_empty h = rw (no_octet (before 46 (drop at s)) (go (before 46 (drop at s)) (omega arith)))
     where
-      go : (q : List ℕ) → length q ≡ 0 → below 256 (digits q) ≡ none
+      go : (q : List ℕ) → length q ≡ 0 → below 256 (digits q) ≡ None
       go [] e = refl
       go (b ∷ q) e = absurd (omega arith)
 
-  pub octet_long : 3 < end - at → NoOctet ≡ octet_at at (drop at s)
+  pub octet_long : 3 < end - at → None ≡ octet_at at (drop at s)
   unfolding octet
   octet_long h = simp (lt-leb (length (before 46 (drop at s))) 3 (omega arith))
 
-  pub octet_zero : 1 < end - at → get_or s at 0 ≡ 48 → NoOctet ≡ octet_at at (drop at s)
+  pub octet_count : (end - at ≡ 1 → ⊥) → (2 ≤ end - at → end - at ≤ 3 → ⊥) → None ≡ octet_at at (drop at s)
+  octet_count k l = go (leb (end - at) 3) refl
+    where
+      go : (t : Bool) → leb (end - at) 3 ≡ t → None ≡ octet_at at (drop at s)
+      go true e = let m : end - at ≤ 3 = leb-true (end - at) 3 e in octet_empty (few (end - at) m k l)
+        where
+          few : (n : ℕ) → n ≤ 3 → (n ≡ 1 → ⊥) → (2 ≤ n → n ≤ 3 → ⊥) → n ≡ 0
+          few zero m k l = refl
+          few (suc zero) m k l = absurd (k refl)
+          few (suc (suc n)) m k l = absurd (l (omega arith) m)
+      go false e = octet_long (leb-false (end - at) 3 e)
+
+  pub octet_zero : 1 < end - at → get_or s at 0 ≡ 48 → None ≡ octet_at at (drop at s)
   unfolding octet
   octet_zero h e =
       simp (lt-ltb 1 (length (before 46 (drop at s))) (omega arith), before_first 46 s at (omega arith), eq-eqb (get_or s at 0) 48 e, and-false)
 
-  value : (end - at ≡ 0 → ⊥) → below 256 (digits (before 46 (drop at s))) ≡ some v
+  value : (end - at ≡ 0 → ⊥) → below 256 (digits (before 46 (drop at s))) ≡ Some v
   value h = simp (digits_some (before 46 (drop at s)) (λ e. h (omega arith)), hd, lt-ltb v 256 (omega arith))
 
-  pub octet_one : (end - at ≡ 0 → ⊥) → end - at ≤ 3 → end - at ≤ 1 → Octet v end ≡ octet_at at (drop at s)
+  pub octet_one : (end - at ≡ 0 → ⊥) → end - at ≤ 3 → end - at ≤ 1 → Some (v, end) ≡ octet_at at (drop at s)
   unfolding octet
   octet_one h l m =
       simp (value h, le-leb (length (before 46 (drop at s))) 3 (omega arith), le-ltb 1 (length (before 46 (drop at s))) (omega arith), hl)
 
-  pub octet_some : (end - at ≡ 0 → ⊥) → end - at ≤ 3 → 1 < end - at → (get_or s at 0 ≡ 48 → ⊥) → Octet v end ≡ octet_at at (drop at s)
+  pub octet_some : (end - at ≡ 0 → ⊥) → end - at ≤ 3 → 1 < end - at → (get_or s at 0 ≡ 48 → ⊥) → Some (v, end) ≡ octet_at at (drop at s)
   unfolding octet
   octet_some h l m e =
       simp (value h, le-leb (length (before 46 (drop at s))) 3 (omega arith), lt-ltb 1 (length (before 46 (drop at s))) (omega arith), before_first 46 s at (omega arith), ne_eqb (get_or s at 0) 48 e, hl)
@@ -81,106 +91,101 @@ module _ (s : List ℕ) (at i v : ℕ) (hl : at + length (before 46 (drop at s))
     end_length : at + length (before 46 (drop at s)) ≡ i
     end_length = omega (arith, ap length e)
 
-    end_value : behind 0 (before 46 (drop at s)) ≡ some v
+    end_value : behind 0 (before 46 (drop at s)) ≡ Some v
     unfolding behind
     end_value = hd ∙ ap (behind v) e
 
   pub dot_length : i < length s → get_or s i 0 ≡ 46 → at + length (before 46 (drop at s)) ≡ i
   dot_length h b = end_length (before_here 46 s i h b)
 
-  pub dot_value : i < length s → get_or s i 0 ≡ 46 → behind 0 (before 46 (drop at s)) ≡ some v
+  pub dot_value : i < length s → get_or s i 0 ≡ 46 → behind 0 (before 46 (drop at s)) ≡ Some v
   dot_value h b = end_value (before_here 46 s i h b)
 
-  pub last_length : length s ≤ i → at + length (before 46 (drop at s)) ≡ i
-  last_length h = end_length (before_end 46 s i h)
+  pub last_length : length s ≤ i → i ≤ length s → at + length (before 46 (drop at s)) ≡ length s
+  last_length h l = omega (arith, end_length (before_end 46 s i h))
 
-  pub last_value : length s ≤ i → behind 0 (before 46 (drop at s)) ≡ some v
+  pub last_value : length s ≤ i → behind 0 (before 46 (drop at s)) ≡ Some v
   last_value h = end_value (before_end 46 s i h)
 
   -- one byte more
   module _ (h : i < length s) (b : get_or s i 0 ≡ 46 → ⊥) where
-    hd' : behind 0 (before 46 (drop at s)) ≡ cond (is_digit (get_or s i 0)) (behind (v * 10 + (get_or s i 0 - 48)) (before 46 (drop (i + 1) s))) none
+    hd' : behind 0 (before 46 (drop at s)) ≡ cond (is_digit (get_or s i 0)) (behind (v * 10 + (get_or s i 0 - 48)) (before 46 (drop (i + 1) s))) None
     unfolding behind
     hd' = hd ∙ ap (behind v) (before_step 46 s i h b)
 
     pub more_length : at + length (before 46 (drop at s)) ≡ i + 1 + length (before 46 (drop (i + 1) s))
     more_length = omega (arith, ap length (before_step 46 s i h b))
 
-    refused : below 256 (behind 0 (before 46 (drop at s))) ≡ none → NoOctet ≡ octet_at at (drop at s)
+    refused : below 256 (behind 0 (before 46 (drop at s))) ≡ None → None ≡ octet_at at (drop at s)
     refused e = rw (no_octet (before 46 (drop at s)) (digits_none (before 46 (drop at s)) e))
 
-    pub digit_low : get_or s i 0 < 48 → NoOctet ≡ octet_at at (drop at s)
-    digit_low l = refused (simp (hd', lt-leb 48 (get_or s i 0) l))
+    pub no_digit : is_digit (get_or s i 0) ≡ false → None ≡ octet_at at (drop at s)
+    no_digit l = refused (simp (hd', l))
 
-    module _ (m : 48 ≤ get_or s i 0) where
-      pub digit_high : 57 < get_or s i 0 → NoOctet ≡ octet_at at (drop at s)
-      digit_high l = refused (simp (hd', le-leb 48 (get_or s i 0) m, lt-leb (get_or s i 0) 57 l))
+    module _ (l : is_digit (get_or s i 0) ≡ true) where
+      pub more_value : behind 0 (before 46 (drop at s)) ≡ behind (v * 10 + (get_or s i 0 - 48)) (before 46 (drop (i + 1) s))
+      more_value = simp (hd', l)
 
-      module _ (l : get_or s i 0 ≤ 57) where
-        pub more_value : behind 0 (before 46 (drop at s)) ≡ behind (v * 10 + (get_or s i 0 - 48)) (before 46 (drop (i + 1) s))
-        more_value = simp (hd', le-leb 48 (get_or s i 0) m, le-leb (get_or s i 0) 57 l)
-
-        pub over : 255 < v * 10 + (get_or s i 0 - 48) → NoOctet ≡ octet_at at (drop at s)
-        over g = refused (simp (more_value, too_big 256 (v * 10 + (get_or s i 0 - 48)) (before 46 (drop (i + 1) s)) g))
+      pub over : 255 < v * 10 + (get_or s i 0 - 48) → None ≡ octet_at at (drop at s)
+      over g = refused (simp (more_value, too_big 256 (v * 10 + (get_or s i 0 - 48)) (before 46 (drop (i + 1) s)) g))
 
 -- the octets os are still to come behind k octets that make a
 abbrev pub four_from : ℕ → ℕ → Option (List ℕ) → Option ℕ
-four_from k a (some os) = cond (eqb (k + length os) 4) (some (number 256 a os)) none
-four_from k a none = none
+four_from k a (Some os) = cond (eqb (k + length os) 4) (Some (number 256 a os)) None
+four_from k a None = None
 
 pub four_start : (s : List ℕ) → ipv4 s ≡ four_from 0 0 (each octet (parts 46 (drop 0 s)))
 unfolding ipv4
 four_start s = go (each octet (parts 46 s))
   where
     go : (m : Option (List ℕ)) → four m ≡ four_from 0 0 m
-    go (some os) = rw zero-add
-    go none = refl
+    go (Some os) = rw zero-add
+    go None = refl
 
 -- an octet is below 256
-pub octet_small : (p : List ℕ) (v : ℕ) → octet p ≡ some v → v < 256
+pub octet_small : (p : List ℕ) (v : ℕ) → octet p ≡ Some v → v < 256
 unfolding octet
 octet_small p v = go (leb (length p) 3 && not (leading_zero p)) (digits p)
   where
-    low : (n : ℕ) (u : Bool) → ltb n 256 ≡ u → cond {A = Option ℕ} u (some n) none ≡ some v → v < 256
+    low : (n : ℕ) (u : Bool) → ltb n 256 ≡ u → cond {A = Option ℕ} u (Some n) None ≡ Some v → v < 256
     low n true e f = let z : n ≡ v = cc in rw z at (ltb-true n 256 e)
     low n false e f = let z : ◌≡◌ {A = ℕ} 0 1 = cc in absurd (omega arith)
 
-    go : (t : Bool) (m : Option ℕ) → cond t (below 256 m) none ≡ some v → v < 256
-    go true (some n) e = low n (ltb n 256) refl e
-    go true none e = let z : ◌≡◌ {A = ℕ} 0 1 = cc in absurd (omega arith)
+    go : (t : Bool) (m : Option ℕ) → cond t (below 256 m) None ≡ Some v → v < 256
+    go true (Some n) e = low n (ltb n 256) refl e
+    go true None e = let z : ◌≡◌ {A = ℕ} 0 1 = cc in absurd (omega arith)
     go false m e = let z : ◌≡◌ {A = ℕ} 0 1 = cc in absurd (omega arith)
 
 -- what the octet at a place says of the part there
-placed_none : (m : Option ℕ) (e : ℕ) → placed m e ≡ NoOctet → m ≡ none
-placed_none none e h = refl
-placed_none (some v) e h = let z : ◌≡◌ {A = ℕ} 0 1 = cc in absurd (omega arith)
+placed_none : (m : Option ℕ) (e : ℕ) → placed m e ≡ None → m ≡ None
+placed_none None e h = refl
+placed_none (Some v) e h = let z : ◌≡◌ {A = ℕ} 0 1 = cc in absurd (omega arith)
 
-placed_some : (m : Option ℕ) (e v n : ℕ) → placed m e ≡ Octet v n → (m ≡ some v) × (e ≡ n)
-placed_some none e v n h = let z : ◌≡◌ {A = ℕ} 0 1 = cc in absurd (omega arith)
-placed_some (some w) e v n h = (cc, cc)
+placed_some : (m : Option ℕ) (e v n : ℕ) → placed m e ≡ Some (v, n) → (m ≡ Some v) × (e ≡ n)
+placed_some None e v n h = let z : ◌≡◌ {A = ℕ} 0 1 = cc in absurd (omega arith)
+placed_some (Some w) e v n h = let z = some_pair_parts w v e n h in (ap Some z.0, z.1)
 
--- k octets are read, which make a, and the others stand from `at` on
 -- k octets that make a are read, and the others stand from `at` on; r is the octet there
-module _ (s : List ℕ) (at k a : ℕ) (hi : ipv4 s ≡ four_from k a (each octet (parts 46 (drop at s)))) (r : OctetRead) (hr : r ≡ octet_at at (drop at s)) where
-  pub stop : r ≡ NoOctet → Nothing ≡ as_ipv4 (ipv4 s)
+module _ (s : List ℕ) (at k a : ℕ) (hi : ipv4 s ≡ four_from k a (each octet (parts 46 (drop at s)))) (r : Option (ℕ × ℕ)) (hr : r ≡ octet_at at (drop at s)) where
+  pub stop : r ≡ None → None ≡ ipv4 s
   unfolding each
   stop e = rw (hi, parts_cons 46 (drop at s), placed_none (octet (before 46 (drop at s))) (at + length (before 46 (drop at s))) (sym hr ∙ e))
 
-  module _ (v e : ℕ) (hv : r ≡ Octet v e) where
-    here : (octet (before 46 (drop at s)) ≡ some v) × (at + length (before 46 (drop at s)) ≡ e)
+  module _ (v e : ℕ) (hv : r ≡ Some (v, e)) where
+    here : (octet (before 46 (drop at s)) ≡ Some v) × (at + length (before 46 (drop at s)) ≡ e)
     here = placed_some (octet (before 46 (drop at s))) (at + length (before 46 (drop at s))) v e (sym hr ∙ hv)
 
     pub value_small : v < 256
     value_small = octet_small (before 46 (drop at s)) v here.0
 
-    last : length s ≤ e → ipv4 s ≡ cond (eqb (k + 1) 4) (some (a * 256 + v)) none
+    last : length s ≤ e → ipv4 s ≡ cond (eqb (k + 1) 4) (Some (a * 256 + v)) None
     unfolding each number
     last h = rw (hi, parts_last 46 (drop at s) (simp length-drop (omega (arith, here.1))), here.0)
 
-    pub too_few : length s ≤ e → k < 3 → Nothing ≡ as_ipv4 (ipv4 s)
+    pub too_few : length s ≤ e → k < 3 → None ≡ ipv4 s
     too_few h l = simp (last h, ne_eqb (k + 1) 4 (λ z. omega arith))
 
-    pub whole : length s ≤ e → k ≤ 3 → 3 ≤ k → Address (a * 256 + v) ≡ as_ipv4 (ipv4 s)
+    pub whole : length s ≤ e → k ≤ 3 → 3 ≤ k → Some (a * 256 + v) ≡ ipv4 s
     whole h l m = simp (last h, eq-eqb (k + 1) 4 (omega arith))
 
     pub next : e < length s → ipv4 s ≡ four_from (k + 1) (a * 256 + v) (each octet (parts 46 (drop (e + 1) s)))
@@ -191,18 +196,18 @@ module _ (s : List ℕ) (at k a : ℕ) (hi : ipv4 s ≡ four_from k a (each octe
         ∙ rw (parts_more 46 (drop at s) (simp length-drop (omega (arith, here.1))), here.0, drop-drop (suc (length (before 46 (drop at s)))) at s, z)
         (go (each octet (parts 46 (drop (e + 1) s))))
       where
-        go : (m : Option (List ℕ)) → four_from k a (prepend (some v) m) ≡ four_from (k + 1) (a * 256 + v) m
-        go (some os) = let z : k + suc (length os) ≡ k + 1 + length os = omega arith in rw z
-        go none = refl
+        go : (m : Option (List ℕ)) → four_from k a (prepend (Some v) m) ≡ four_from (k + 1) (a * 256 + v) m
+        go (Some os) = let z : k + suc (length os) ≡ k + 1 + length os = omega arith in rw z
+        go None = refl
 
-    pub too_many : e < length s → 3 ≤ k → Nothing ≡ as_ipv4 (ipv4 s)
+    pub too_many : e < length s → 3 ≤ k → None ≡ ipv4 s
     unfolding each
     too_many h l = rw (next h, parts_cons 46 (drop (e + 1) s)) (go (octet (before 46 (drop (e + 1) s))) (each octet (later 46 (drop (e + 1) s))))
       where
-        go : (m : Option ℕ) (n : Option (List ℕ)) → Nothing ≡ as_ipv4 (four_from (k + 1) (a * 256 + v) (prepend m n))
-        go (some o) (some os) = simp (ne_eqb (k + 1 + suc (length os)) 4 (λ z. omega arith))
-        go (some o) none = refl
-        go none n = refl
+        go : (m : Option ℕ) (n : Option (List ℕ)) → None ≡ four_from (k + 1) (a * 256 + v) (prepend m n)
+        go (Some o) (Some os) = simp (ne_eqb (k + 1 + suc (length os)) 4 (λ z. omega arith))
+        go (Some o) None = refl
+        go None n = refl
 
 -- there is room for one octet more behind at most three
 module _ (a k : ℕ) (h : a < 256 ^ k) (l : k ≤ 3) where
@@ -219,17 +224,17 @@ module _ (a k : ℕ) (h : a < 256 ^ k) (l : k ≤ 3) where
   octets_grow v m = rw add-one (number_grows 256 a v k h m)
 
 -- an address is below 2 ^ 32
-pub ipv4_small : (s : List ℕ) (n : ℕ) → ipv4 s ≡ some n → n < 2 ^ 32
+pub ipv4_small : (s : List ℕ) (n : ℕ) → ipv4 s ≡ Some n → n < 2 ^ 32
 unfolding ipv4
 ipv4_small s n = go (each octet (parts 46 s)) refl
   where
-    size : (os : List ℕ) → each octet (parts 46 s) ≡ some os → (t : Bool) → eqb (length os) 4 ≡ t → cond t (some (number 256 0 os)) none ≡ some n → n < 2 ^ 32
+    size : (os : List ℕ) → each octet (parts 46 s) ≡ Some os → (t : Bool) → eqb (length os) 4 ≡ t → cond t (Some (number 256 0 os)) None ≡ Some n → n < 2 ^ 32
     size os e true f h =
         let y : number 256 0 os ≡ n = cc in
         let x : number 256 0 os < 256 ^ (0 + length os) = each_small octet 256 octet_small (parts 46 s) os e 0 0 (omega arith) in
         rw (y, zero-add, eqb-true (length os) 4 f) at x
     size os e false f h = let z : ◌≡◌ {A = ℕ} 0 1 = cc in absurd (omega arith)
 
-    go : (m : Option (List ℕ)) → each octet (parts 46 s) ≡ m → four m ≡ some n → n < 2 ^ 32
-    go (some os) e h = size os e (eqb (length os) 4) refl h
-    go none e h = let z : ◌≡◌ {A = ℕ} 0 1 = cc in absurd (omega arith)
+    go : (m : Option (List ℕ)) → each octet (parts 46 s) ≡ m → four m ≡ Some n → n < 2 ^ 32
+    go (Some os) e h = size os e (eqb (length os) 4) refl h
+    go None e h = let z : ◌≡◌ {A = ℕ} 0 1 = cc in absurd (omega arith)

@@ -1,8 +1,8 @@
 -- Laws of a text's parts.
+use Rattle.std.specs.Prelude.{Option, Some, None}
 use mathlib.Core.Path.{◌≡◌, refl, sym, ap, ◌∙◌}
 use mathlib.Core.List.{List, [], ◌∷◌}
 use mathlib.Core.Bool.{Bool, true, false, cond}
-use mathlib.Core.Option.{Option, some, none}
 use Prim.Native.Nat.{ℕ, zero, suc, ◌+◌, ◌*◌, ◌^◌, ◌≤◌, ◌<◌}
 use native.Mathlib.Numerals.{add-one}
 use native.Mathlib.Nat.{add-zero, pow-suc, mul-le-mul_right, lt_of_lt_of_le, pow-le-pow_right}
@@ -100,47 +100,33 @@ number_grows k v d i h l = rw pow-suc (omega (arith, mul-le-mul_right k h))
 pub number_room : {k m v i : ℕ} → 0 < k → v < k ^ i → i ≤ m → v < k ^ m
 number_room p h l = lt_of_lt_of_le h (pow-le-pow_right p l)
 
--- the place where the first part ends, byte by byte
-module _ (c : ℕ) (s : List ℕ) (i : ℕ) (e : length (before c s) ≡ i + length (before c (drop i s))) where
-  pub end_here : i < length s → get_or s i 0 ≡ c → i ≡ length (before c s)
-  end_here h b = omega (arith, ap length (before_here c s i h b))
-
-  pub end_last : length s ≤ i → i ≡ length (before c s)
-  end_last h = omega (arith, ap length (before_end c s i h))
-
-  pub end_later : i < length s → (get_or s i 0 ≡ c → ⊥) → length (before c s) ≡ i + 1 + length (before c (drop (i + 1) s))
-  end_later h b = omega (arith, ap length (before_step c s i h b))
-
-pub end_start : (c : ℕ) (s : List ℕ) → length (before c s) ≡ 0 + length (before c (drop 0 s))
-end_start c s = omega arith
-
 -- the code's `&s[..n]` has n bytes
 pub take_count : (n : ℕ) (s : List ℕ) → n < length s → n ≡ length (take n s)
 take_count n s h = sym (length-take-le n s (omega arith))
 
 -- what is read of all, and its size
-pub each_length : {A B : Type 0} (f : A → Option B) (xs : List A) (ds : List B) → each f xs ≡ some ds → length ds ≡ length xs
+pub each_length : {A B : Type 0} (f : A → Option B) (xs : List A) (ds : List B) → each f xs ≡ Some ds → length ds ≡ length xs
 unfolding each
 each_length f [] ds e = let z : ds ≡ [] = cc in ap length z
 each_length {A} {B} f (x ∷ xs) ds e = go (f x) (each f xs) (each_length f xs) e
   where
-    go : (m : Option B) (n : Option (List B)) → ((l : List B) → n ≡ some l → length l ≡ length xs) → prepend m n ≡ some ds → length ds ≡ suc (length xs)
-    go (some d) (some l) ih h = let z : ds ≡ d ∷ l = cc in ap length z ∙ ap suc (ih l refl)
-    go (some d) none ih h = let z : ◌≡◌ {A = ℕ} 0 1 = cc in absurd (omega arith)
-    go none n ih h = let z : ◌≡◌ {A = ℕ} 0 1 = cc in absurd (omega arith)
+    go : (m : Option B) (n : Option (List B)) → ((l : List B) → n ≡ Some l → length l ≡ length xs) → prepend m n ≡ Some ds → length ds ≡ suc (length xs)
+    go (Some d) (Some l) ih h = let z : ds ≡ d ∷ l = cc in ap length z ∙ ap suc (ih l refl)
+    go (Some d) None ih h = let z : ◌≡◌ {A = ℕ} 0 1 = cc in absurd (omega arith)
+    go None n ih h = let z : ◌≡◌ {A = ℕ} 0 1 = cc in absurd (omega arith)
 
 -- digits below k make no number of more digits
-pub each_small : {A : Type 0} (f : A → Option ℕ) (k : ℕ) → ((x : A) (d : ℕ) → f x ≡ some d → d < k)
-    → (xs : List A) (ds : List ℕ) → each f xs ≡ some ds → (v i : ℕ) → v < k ^ i → number k v ds < k ^ (i + length ds)
+pub each_small : {A : Type 0} (f : A → Option ℕ) (k : ℕ) → ((x : A) (d : ℕ) → f x ≡ Some d → d < k)
+    → (xs : List A) (ds : List ℕ) → each f xs ≡ Some ds → (v i : ℕ) → v < k ^ i → number k v ds < k ^ (i + length ds)
 unfolding each number
 each_small f k low [] ds e v i h = let z : ds ≡ [] = cc in rw (z, add-zero) h
 each_small {A} f k low (x ∷ xs) ds e v i h = go (f x) refl (each f xs) (each_small f k low xs) e
   where
     go : (m : Option ℕ) → f x ≡ m → (n : Option (List ℕ))
-        → ((l : List ℕ) → n ≡ some l → (v i : ℕ) → v < k ^ i → number k v l < k ^ (i + length l)) → prepend m n ≡ some ds → number k v ds < k ^ (i + length ds)
-    go (some d) g (some l) ih q =
+        → ((l : List ℕ) → n ≡ Some l → (v i : ℕ) → v < k ^ i → number k v l < k ^ (i + length l)) → prepend m n ≡ Some ds → number k v ds < k ^ (i + length ds)
+    go (Some d) g (Some l) ih q =
         let z : ds ≡ d ∷ l = cc in
         let y : i + suc (length l) ≡ suc i + length l = omega arith in
         rw (z, y) (ih l refl (v * k + d) (suc i) (number_grows k v d i h (low x d g)))
-    go (some d) g none ih q = let z : ◌≡◌ {A = ℕ} 0 1 = cc in absurd (omega arith)
-    go none g n ih q = let z : ◌≡◌ {A = ℕ} 0 1 = cc in absurd (omega arith)
+    go (Some d) g None ih q = let z : ◌≡◌ {A = ℕ} 0 1 = cc in absurd (omega arith)
+    go None g n ih q = let z : ◌≡◌ {A = ℕ} 0 1 = cc in absurd (omega arith)

@@ -2,94 +2,67 @@
 #![tactic(auto)]
 
 ghost use Rattle.std.specs.Prelude.{◌≡◌, ◌+◌, ◌≤◌, length, drop};
-ghost use Rattle.std.proofs.Math.Option.{some};
 ghost use Rattle.decimal.specs.Decimal.{behind};
 ghost use Rattle.ipv4.specs.Parts.{before};
 ghost use Rattle.ipv4.specs.Ipv4.{octet_at, read_ipv4};
 
-#[derive(Clone, Copy)]
-pub enum Ipv4Read {
-    Address(u32),
-    Nothing,
-}
-
-// An octet, and the place behind its digits.
-#[derive(Clone, Copy)]
-enum OctetRead {
-    Octet(u32, usize),
-    Nothing,
-}
-
-// The octet whose digits stand in s from `at` up to `end`, where it has no leading zero.
-fn octet_of(s: &[u8], at: usize, end: usize, v: u32) -> OctetRead
-    requires { (at + length (before 46 (drop at s.now)) ≡ end) × (end ≤ length s.now) × (behind 0 (before 46 (drop at s.now)) ≡ some v) × (v ≤ 255) }
+// The octet whose digits stand in s from `at` up to `end`, where it has no leading zero, and the
+// place after it.
+fn octet_of(s: &[u8], at: usize, end: usize, v: u32) -> Option<(u32, usize)>
+    requires { (at + length (before 46 (drop at s.now)) ≡ end) × (end ≤ length s.now) × (behind 0 (before 46 (drop at s.now)) ≡ Some v) × (v ≤ 255) }
     ensures { result ≡ octet_at at (drop at s.now) }
 {
-    let n = end - at;
-    if n == 0 {
-        return OctetRead::Nothing;
+    match end - at {
+        1 => Some((v, end)),
+        2..=3 if s[at] != b'0' => Some((v, end)),
+        _ => None,
     }
-    if 3 < n {
-        return OctetRead::Nothing;
-    }
-    if 1 < n {
-        let zero = s[at] == b'0';
-        if zero {
-            return OctetRead::Nothing;
-        }
-    }
-    OctetRead::Octet(v, end)
 }
 
 // The octet from `at` up to the next '.' or the end.
-fn octet(s: &[u8], at: usize) -> OctetRead
+#[tactic(auto, using(crate::proofs::Ipv4::dot_length, crate::proofs::Ipv4::dot_value, crate::proofs::Ipv4::last_length, crate::proofs::Ipv4::last_value, crate::proofs::Ipv4::more_length, crate::proofs::Ipv4::no_digit, crate::proofs::Ipv4::more_value, crate::proofs::Ipv4::over))]
+fn octet(s: &[u8], at: usize) -> Option<(u32, usize)>
     requires { at ≤ length s.now }
     ensures { result ≡ octet_at at (drop at s.now) }
 {
-    let mut i = at;
     let mut v: u32 = 0;
-    while i < s.len() {
+    for i in at..s.len() {
         let b = s[i];
         if b == b'.' {
             return octet_of(s, at, i, v);
         }
-        if b < b'0' {
-            return OctetRead::Nothing;
+        if !b.is_ascii_digit() {
+            return None;
         }
-        if b'9' < b {
-            return OctetRead::Nothing;
-        }
-        v = v * 10 + (b as u32 - 48);
+        v = v * 10 + u32::from(b - b'0');
         if 255 < v {
-            return OctetRead::Nothing;
+            return None;
         }
-        i += 1;
     }
-    octet_of(s, at, i, v)
+    octet_of(s, at, s.len(), v)
 }
 
-pub fn read_ipv4(s: &[u8]) -> Ipv4Read
+#[tactic(auto, using(crate::proofs::Ipv4::four_start, crate::proofs::Ipv4::stop, crate::proofs::Ipv4::value_small, crate::proofs::Ipv4::too_few, crate::proofs::Ipv4::whole, crate::proofs::Ipv4::next, crate::proofs::Ipv4::too_many, crate::proofs::Ipv4::room, crate::proofs::Ipv4::room_for, crate::proofs::Ipv4::octets_grow))]
+pub fn read_ipv4(s: &[u8]) -> Option<u32>
     ensures { result ≡ read_ipv4 s.now }
 {
     let mut at = 0;
-    let mut k: usize = 0;
     let mut a: u32 = 0;
-    while k < 3 {
-        let OctetRead::Octet(v, e) = octet(s, at) else {
-            return Ipv4Read::Nothing;
+    for _k in 0..3usize {
+        let Some((v, e)) = octet(s, at) else {
+            return None;
         };
         if s.len() <= e {
-            return Ipv4Read::Nothing;
+            return None;
         }
         a = a * 256 + v;
         at = e + 1;
-        k += 1;
     }
-    let OctetRead::Octet(v, e) = octet(s, at) else {
-        return Ipv4Read::Nothing;
+    let Some((v, e)) = octet(s, at) else {
+        return None;
     };
     if e < s.len() {
-        return Ipv4Read::Nothing;
+        return None;
     }
-    Ipv4Read::Address(a * 256 + v)
+    Some(a * 256 + v)
 }

@@ -1,69 +1,65 @@
 -- Laws of groups, and of what stands around "::".
 use mathlib.Core.Path.{◌≡◌, refl, sym, ap, ◌∙◌}
 use mathlib.Core.List.{List, [], ◌∷◌}
-use mathlib.Core.Bool.{Bool, true, false, cond, ◌&&◌, and-false}
-use mathlib.Core.Option
-use mathlib.Core.Option.{Option, some, none}
+use mathlib.Core.Bool.{Bool, true, false, cond, not, ◌&&◌, and-false}
+use Rattle.std.specs.Prelude.{Option, Some, None, unwrap_or, position}
+use Rattle.std.specs.List.{position_or_len}
 use Prim.Native.Nat.{ℕ, suc, ◌+◌, ◌-◌, ◌*◌, ◌^◌, ◌≤◌, ◌<◌}
 use native.Mathlib.Numerals.{add-one}
 use native.Mathlib.Nat.{add-zero}
 use native.Mathlib.Omega.{arith}
-use lib.ListN.{length, get_or, drop, length-drop, drop_of_length-le}
-use lib.Seq.{drop-cons, get_or-drop}
-use mir.Syntax.{w16, w32}
+use lib.ListN.{length, get_or, take, drop, drop_of_length-le}
+use lib.Seq.{drop-cons}
+use mir.Syntax.{w16}
 use mir.Val.{Fits}
-use lib.Dec.{eqb, leb}
-use borrow.Author.Tests.{le-ltb, lt-ltb, lt-leb, le-leb, leb-true}
-use Rattle.ipv4.specs.Parts.{prepend, each, number}
+use lib.Dec.{eqb, leb, ltb}
+use mathlib.Core.Logic.{◌⊎◌}
+use Rattle.std.proofs.Common.{inl, inr}
+use borrow.Author.Tests.{le-ltb, lt-ltb, lt-leb, le-leb, leb-true, ltb-true, ltb-false}
+use Rattle.scan.specs.Search.{equal, find_from, find_in}
+use Rattle.ipv4.specs.Parts.{before, prepend, each, number}
 use Rattle.ipv6.specs.Ipv6.{hex_digit, value_from, group, gap}
-use Rattle.ipv6.specs.Groups.{as_group, shifted, push}
+use Rattle.ipv6.specs.Groups.{shifted, push}
 use Rattle.ipv6.specs.declared.Groups.{Groups}
-use Rattle.ipv6.specs.declared.GroupRead.TheVariants.{Group, Nothing as NoGroup}
-use Rattle.ipv4.proofs.Parts.{number_grows, number_room}
+use Rattle.ipv4.proofs.Parts.{number_grows, number_room, before_short}
 
--- the digits and what lies between them
+-- the digits, and what is none
 module _ (b : ℕ) where
-  pub below_0 : b < 48 → 16 ≡ Option.get_or (hex_digit b) 16
-  unfolding hex_digit
-  below_0 h = simp (lt-leb 48 b h, lt-leb 65 b (omega arith), lt-leb 97 b (omega arith))
-
-  pub from_0 : 48 ≤ b → b ≤ 57 → b - 48 ≡ Option.get_or (hex_digit b) 16
+  pub from_0 : 48 ≤ b → b ≤ 57 → Some (b - 48) ≡ hex_digit b
   unfolding hex_digit
   from_0 h l = simp (le-leb 48 b h, le-leb b 57 l)
 
-  pub above_9 : 57 < b → b < 65 → 16 ≡ Option.get_or (hex_digit b) 16
+  pub from_A : 65 ≤ b → b ≤ 70 → Some (b - 65 + 10) ≡ hex_digit b
   unfolding hex_digit
-  above_9 h l = simp (le-leb 48 b (omega arith), lt-leb b 57 h, lt-leb 65 b l, lt-leb 97 b (omega arith))
+  from_A h l = let z : b - 65 + 10 ≡ b - 55 = omega arith in simp (lt-leb b 57 (omega arith), le-leb 48 b (omega arith), le-leb 65 b h, le-leb b 70 l) (ap Some z)
 
-  pub from_A : 65 ≤ b → b ≤ 70 → b - 55 ≡ Option.get_or (hex_digit b) 16
+  pub from_a : 97 ≤ b → b ≤ 102 → Some (b - 97 + 10) ≡ hex_digit b
   unfolding hex_digit
-  from_A h l = simp (le-leb 48 b (omega arith), lt-leb b 57 (omega arith), le-leb 65 b h, le-leb b 70 l)
+  from_a h l =
+      let z : b - 97 + 10 ≡ b - 87 = omega arith in
+      simp (le-leb 48 b (omega arith), lt-leb b 57 (omega arith), le-leb 65 b (omega arith), lt-leb b 70 (omega arith), le-leb 97 b h, le-leb b 102 l) (ap Some z)
 
-  pub above_F : 70 < b → b < 97 → 16 ≡ Option.get_or (hex_digit b) 16
+  pub no_hex_digit : (b < 48) ⊎ (57 < b) → (b < 65) ⊎ (70 < b) → (b < 97) ⊎ (102 < b) → None ≡ hex_digit b
   unfolding hex_digit
-  above_F h l = simp (le-leb 48 b (omega arith), lt-leb b 57 (omega arith), le-leb 65 b (omega arith), lt-leb b 70 h, lt-leb 97 b l)
-
-  pub from_a : 97 ≤ b → b ≤ 102 → b - 87 ≡ Option.get_or (hex_digit b) 16
-  unfolding hex_digit
-  from_a h l = simp (le-leb 48 b (omega arith), lt-leb b 57 (omega arith), le-leb 65 b (omega arith), lt-leb b 70 (omega arith), le-leb 97 b h, le-leb b 102 l)
-
-  pub above_f : 102 < b → 16 ≡ Option.get_or (hex_digit b) 16
-  unfolding hex_digit
-  above_f h = simp (le-leb 48 b (omega arith), lt-leb b 57 (omega arith), le-leb 65 b (omega arith), lt-leb b 70 (omega arith), le-leb 97 b (omega arith), lt-leb b 102 h)
+  no_hex_digit p q r = rw (out 48 57 p, out 65 70 q, out 97 102 r)
+    where
+      out : (l h : ℕ) → (b < l) ⊎ (h < b) → leb l b && leb b h ≡ false
+      out l h (inl k) = rw (lt-leb l b k)
+      out l h (inr k) = rw (lt-leb b h k, and-false)
 
 -- a digit is below 16
-pub digit_small : (b x : ℕ) → hex_digit b ≡ some x → x < 16
+pub digit_small : (b x : ℕ) → hex_digit b ≡ Some x → x < 16
 unfolding hex_digit
 digit_small b x = go (leb 48 b) (leb b 57) (leb 65 b) (leb b 70) (leb 97 b) (leb b 102) refl refl refl
   where
-    no : none ≡ some x → x < 16
+    no : None ≡ Some x → x < 16
     no e = let z : ◌≡◌ {A = ℕ} 0 1 = cc in absurd (omega arith)
 
-    yes : (y : ℕ) → some y ≡ some x → y < 16 → x < 16
+    yes : (y : ℕ) → Some y ≡ Some x → y < 16 → x < 16
     yes y e l = let z : y ≡ x = cc in rw z at l
 
     go : (t₀ t₁ t₂ t₃ t₄ t₅ : Bool) → leb b 57 ≡ t₁ → leb b 70 ≡ t₃ → leb b 102 ≡ t₅
-        → cond (t₀ && t₁) (some (b - 48)) (cond (t₂ && t₃) (some (b - 55)) (cond (t₄ && t₅) (some (b - 87)) none)) ≡ some x → x < 16
+        → cond (t₀ && t₁) (Some (b - 48)) (cond (t₂ && t₃) (Some (b - 55)) (cond (t₄ && t₅) (Some (b - 87)) None)) ≡ Some x → x < 16
     go true true t₂ t₃ t₄ t₅ e f g h = yes (b - 48) h (omega (arith, leb-true b 57 e))
     go true false true true t₄ t₅ e f g h = yes (b - 55) h (omega (arith, leb-true b 70 f))
     go true false true false true true e f g h = yes (b - 87) h (omega (arith, leb-true b 102 g))
@@ -80,26 +76,23 @@ digit_small b x = go (leb 48 b) (leb b 57) (leb 65 b) (leb b 70) (leb 97 b) (leb
     go false t₁ false t₃ true false e f g h = no h
     go false t₁ false t₃ false t₅ e f g h = no h
 
--- what the code's digit says
-digit_some : (b d : ℕ) → d ≡ Option.get_or (hex_digit b) 16 → d ≤ 15 → hex_digit b ≡ some d
-digit_some b d e h = go (hex_digit b) refl e
-  where
-    go : (m : Option ℕ) → hex_digit b ≡ m → d ≡ Option.get_or m 16 → hex_digit b ≡ some d
-    go (some x) f g = f ∙ ap some (sym g)
-    go none f g = absurd (omega arith)
+-- what the code's answers say
+pub option_some : (m : Option ℕ) (x : Option ℕ) (g : ℕ) → x ≡ m → x ≡ Some g → m ≡ Some g
+option_some (Some h) x g e f = cc
+option_some None x g e f = let z : ◌≡◌ {A = ℕ} 0 1 = cc in absurd (omega arith)
 
-digit_none : (b d : ℕ) → d ≡ Option.get_or (hex_digit b) 16 → 15 < d → hex_digit b ≡ none
-digit_none b d e h = go (hex_digit b) refl e
-  where
-    go : (m : Option ℕ) → hex_digit b ≡ m → d ≡ Option.get_or m 16 → hex_digit b ≡ none
-    go (some x) f g = absurd (omega (arith, digit_small b x f))
-    go none f g = f
+pub option_none : (m : Option ℕ) (x : Option ℕ) → x ≡ m → x ≡ None → m ≡ None
+option_none (Some h) x e f = let z : ◌≡◌ {A = ℕ} 0 1 = cc in absurd (omega arith)
+option_none None x e f = refl
 
-pub group_empty : (p : List ℕ) → length p ≡ 0 → NoGroup ≡ as_group (group p)
+pub hex_small : (b d : ℕ) (x : Option ℕ) → x ≡ hex_digit b → x ≡ Some d → d < 16
+hex_small b d x e f = digit_small b d (option_some (hex_digit b) x d e f)
+
+pub group_empty : (p : List ℕ) → length p ≡ 0 → None ≡ group p
 unfolding group
 group_empty p h = simp (lt-leb 1 (length p) (omega arith))
 
-pub group_long : (p : List ℕ) → 4 < length p → NoGroup ≡ as_group (group p)
+pub group_long : (p : List ℕ) → 4 < length p → None ≡ group p
 unfolding group
 group_long p h = simp (le-leb 1 (length p) (omega arith), lt-leb (length p) 4 h)
 
@@ -116,36 +109,34 @@ module _ (p : List ℕ) (some_digit : length p ≡ 0 → ⊥) (few : length p �
       lt_of_ne : (length p ≡ 0 → ⊥) → 1 ≤ length p
       lt_of_ne h = omega arith
 
-  pub group_whole : length p ≤ i → Group v ≡ as_group (group p)
+  pub group_whole : length p ≤ i → Some v ≡ group p
   unfolding each number
   group_whole h = rw (as_value, drop_of_length-le p h)
 
-  module _ (h : i < length p) (d : ℕ) (hd : d ≡ Option.get_or (hex_digit (get_or p i 0)) 16) where
-    pub group_stop : 15 < d → NoGroup ≡ as_group (group p)
+  module _ (h : i < length p) (x : Option ℕ) (hx : x ≡ hex_digit (get_or p i 0)) where
+    pub group_stop : x ≡ None → None ≡ group p
     unfolding each
-    group_stop l = rw (as_value, drop-cons p i 0 h, digit_none (get_or p i 0) d hd l)
+    group_stop l = rw (as_value, drop-cons p i 0 h, option_none (hex_digit (get_or p i 0)) x hx l)
 
-    pub group_more : d ≤ 15 → value_from 16 0 (each hex_digit p) ≡ value_from 16 (v * 16 + d) (each hex_digit (drop (i + 1) p))
+    pub group_more : (d : ℕ) → x ≡ Some d → value_from 16 0 (each hex_digit p) ≡ value_from 16 (v * 16 + d) (each hex_digit (drop (i + 1) p))
     unfolding each number
-    group_more l = hv ∙ rw (add-one, drop-cons p i 0 h, digit_some (get_or p i 0) d hd l) (go (each hex_digit (drop (suc i) p)))
+    group_more d l = hv ∙ rw (add-one, drop-cons p i 0 h, option_some (hex_digit (get_or p i 0)) x d hx l) (go (each hex_digit (drop (suc i) p)))
       where
-        go : (m : Option (List ℕ)) → value_from 16 v (prepend (some d) m) ≡ value_from 16 (v * 16 + d) m
-        go (some ds) = refl
-        go none = refl
+        go : (m : Option (List ℕ)) → value_from 16 v (prepend (Some d) m) ≡ value_from 16 (v * 16 + d) m
+        go (Some ds) = refl
+        go None = refl
 
 -- at most four digits fit
-module _ (p : List ℕ) (few : length p ≤ 4) (i v : ℕ) (h : v < 16 ^ i) where
-  pub hex_room : i < length p → Fits w32 (v * 16)
-  hex_room l = record { fits = let z : v < 16 ^ 4 = number_room {m = 4} (omega arith) h (omega arith) in omega arith }
+module _ (p : List ℕ) (few : length p ≤ 4) (i v : ℕ) (h : v < 16 ^ i) (more : i < length p) where
+  pub hex_room : Fits w16 (v * 16)
+  hex_room = record { fits = let z : v < 16 ^ 3 = number_room {m = 3} (omega arith) h (omega arith) in omega arith }
 
-  pub hex_room_for : i < length p → (d : ℕ) → d ≤ 15 → Fits w32 (v * 16 + d)
-  hex_room_for l d m = record { fits = let z : v < 16 ^ 4 = number_room {m = 4} (omega arith) h (omega arith) in omega arith }
+  module _ (d : ℕ) (l : d < 16) where
+    pub hex_grows : v * 16 + d < 16 ^ (i + 1)
+    hex_grows = rw add-one (number_grows 16 v d i h l)
 
-  pub hex_grows : (d : ℕ) → d ≤ 15 → v * 16 + d < 16 ^ (i + 1)
-  hex_grows d m = rw add-one (number_grows 16 v d i h (omega arith))
-
-  pub hex_fits : i ≤ length p → Fits w16 v
-  hex_fits l = record { fits = number_room {m = 4} (omega arith) h (omega arith) }
+    pub hex_room_for : Fits w16 (v * 16 + d)
+    hex_room_for = record { fits = number_room {m = 4} (omega arith) hex_grows (omega arith) }
 
 -- one group more
 pub push_upper : (r : Groups) (g : ℕ) → r.n < 4 → record { n = r.n + 1; upper = shifted r.upper g; lower = r.lower } ≡ push r g
@@ -156,32 +147,70 @@ pub push_lower : (r : Groups) (g : ℕ) → 4 ≤ r.n → record { n = r.n + 1; 
 unfolding push
 push_lower r g h = simp (le-ltb r.n 4 h)
 
--- the first "::", byte by byte
-gap_drop : (s : List ℕ) (i : ℕ) → i < length s
-    → gap (drop i s) ≡ cond (eqb (get_or s i 0) 58 && eqb (get_or s (i + 1) 0) 58) 0 (suc (gap (drop (i + 1) s)))
+-- the first part ends at the first c, else with the text
+before_count : (c : ℕ) (t : List ℕ) → position_or_len (λ b. eqb b c) t ≡ length (before c t)
+unfolding before
+before_count c [] = refl
+before_count c (b ∷ t) = go (eqb b c) (before_count c t)
+  where
+    go : (u : Bool) → position_or_len (λ b. eqb b c) t ≡ length (before c t)
+        → cond (not u) (1 + position_or_len (λ b. eqb b c) t) 0 ≡ length (cond u [] (b ∷ before c t))
+    go true h = refl
+    go false h = omega arith
+
+pub end_position : (c : ℕ) (t : List ℕ) (r : Option ℕ) → r ≡ position (λ b. eqb b c) t → unwrap_or r (length t) ≡ length (before c t)
+end_position c t r e = rw e (go (position_or_len (λ b. eqb b c) t) (before_count c t) (ltb (position_or_len (λ b. eqb b c) t) (length t)) refl)
+  where
+    go : (n : ℕ) → n ≡ length (before c t) → (u : Bool) → ltb n (length t) ≡ u → unwrap_or (cond u (Some n) None) (length t) ≡ length (before c t)
+    go n h true f = h
+    go n h false f = omega (arith, ltb-false n (length t) f, before_short c t)
+
+-- the first "::" is where the search finds it
+gap_le : (s : List ℕ) → gap s ≤ length s
 unfolding gap
-gap_drop s i h = rw (add-one, drop-cons s i 0 h, get_or-drop (suc i) s 0 0, add-zero)
+gap_le [] = omega arith
+gap_le (b ∷ s) = go (eqb b 58 && eqb (get_or s 0 0) 58) (gap_le s)
+  where
+    go : (t : Bool) → gap s ≤ length s → cond t 0 (suc (gap s)) ≤ suc (length s)
+    go true h = omega arith
+    go false h = omega arith
 
--- one byte is no "::"
-gap_one : (s : List ℕ) → length s ≤ 1 → gap s ≡ length s
-unfolding gap
-gap_one [] h = refl
-gap_one (b ∷ []) h = simp and-false
-gap_one (b ∷ c ∷ s) h = absurd (omega arith)
+one_colon : (s : List ℕ) → equal (take 1 s) (58 ∷ []) ≡ eqb (get_or s 0 0) 58
+unfolding equal
+one_colon [] = refl
+one_colon (c ∷ s) = go (eqb c 58)
+  where
+    go : (t : Bool) → t && true ≡ t
+    go true = refl
+    go false = refl
 
-module _ (s : List ℕ) (i : ℕ) (e : gap s ≡ i + gap (drop i s)) where
-  pub gap_last : length s ≤ i + 1 → i ≤ length s → length s ≡ gap s
-  gap_last h l = omega (arith, gap_one (drop i s) (simp length-drop (omega arith)), length-drop i s)
+found_gap : (i : ℕ) (s : List ℕ) → find_from i s (58 ∷ 58 ∷ []) ≡ cond (ltb (gap s) (length s)) (Some (i + gap s)) None
+unfolding find_from gap equal
+found_gap i [] = refl
+found_gap i (b ∷ s) = rw (one_colon s) (go (eqb b 58 && eqb (get_or s 0 0) 58) (found_gap (i + 1) s))
+  where
+    next : (t : Bool) → ltb (gap s) (length s) ≡ t → cond (ltb (gap s) (length s)) (Some (i + 1 + gap s)) None ≡ cond (ltb (suc (gap s)) (suc (length s))) (Some (i + suc (gap s))) None
+    next true e = let z : i + 1 + gap s ≡ i + suc (gap s) = omega arith in rw (e, lt-ltb (suc (gap s)) (suc (length s)) (omega (arith, ltb-true (gap s) (length s) e)), z)
+    next false e = rw (e, le-ltb (suc (gap s)) (suc (length s)) (omega (arith, ltb-false (gap s) (length s) e)))
 
-  module _ (h : i + 1 < length s) where
-    pub gap_here : eqb (get_or s i 0) 58 && eqb (get_or s (i + 1) 0) 58 ≡ true → i ≡ gap s
-    gap_here f = let z : gap (drop i s) ≡ 0 = gap_drop s i (omega arith) ∙ simp f in omega arith
+    go : (t : Bool) → find_from (i + 1) s (58 ∷ 58 ∷ []) ≡ cond (ltb (gap s) (length s)) (Some (i + 1 + gap s)) None
+        → cond t (Some i) (find_from (i + 1) s (58 ∷ 58 ∷ [])) ≡ cond (ltb (cond t 0 (suc (gap s))) (suc (length s))) (Some (i + cond t 0 (suc (gap s)))) None
+    go true h = rw (lt-ltb 0 (suc (length s)) (omega arith), add-zero)
+    go false h = h ∙ next (ltb (gap s) (length s)) refl
 
-    pub gap_later : eqb (get_or s i 0) 58 && eqb (get_or s (i + 1) 0) 58 ≡ false → gap s ≡ i + 1 + gap (drop (i + 1) s)
-    gap_later f = let z : gap (drop i s) ≡ suc (gap (drop (i + 1) s)) = gap_drop s i (omega arith) ∙ simp f in omega arith
+pub gap_at : (s : List ℕ) (r : Option ℕ) (k : ℕ) → r ≡ find_in s (58 ∷ 58 ∷ []) → r ≡ Some k → k ≡ gap s
+gap_at s r k e f = go (ltb (gap s) (length s)) (sym f ∙ e ∙ found_gap 0 s)
+  where
+    go : (t : Bool) → Some k ≡ cond t (Some (0 + gap s)) None → k ≡ gap s
+    go true h = let z : k ≡ 0 + gap s = cc in omega arith
+    go false h = let z : ◌≡◌ {A = ℕ} 0 1 = cc in absurd (omega arith)
 
-pub gap_start : (s : List ℕ) → gap s ≡ 0 + gap (drop 0 s)
-gap_start s = omega arith
+pub gap_none : (s : List ℕ) (r : Option ℕ) → r ≡ find_in s (58 ∷ 58 ∷ []) → r ≡ None → length s ≡ gap s
+gap_none s r e f = go (ltb (gap s) (length s)) refl (sym f ∙ e ∙ found_gap 0 s)
+  where
+    go : (t : Bool) → ltb (gap s) (length s) ≡ t → None ≡ cond t (Some (0 + gap s)) None → length s ≡ gap s
+    go true g h = let z : ◌≡◌ {A = ℕ} 0 1 = cc in absurd (omega arith)
+    go false g h = omega (arith, ltb-false (gap s) (length s) g, gap_le s)
 
 -- "::" is two bytes
 two_bytes : (s : List ℕ) → gap s < length s → gap s + 2 ≤ length s

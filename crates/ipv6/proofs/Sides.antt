@@ -2,7 +2,7 @@
 use mathlib.Core.Path.{◌≡◌, refl, sym, ap, subst, ◌∙◌}
 use mathlib.Core.List.{List, [], ◌∷◌, ◌++◌}
 use mathlib.Core.Bool.{Bool, true, false, cond, not, ◌&&◌}
-use mathlib.Core.Option.{Option, some, none}
+use Rattle.std.specs.Prelude.{Option, Some, None}
 use Prim.Native.Nat.{ℕ, zero, suc, ◌+◌, ◌-◌, ◌*◌, ◌/◌, ◌%◌, ◌^◌, ◌≤◌, ◌<◌}
 use native.Mathlib.Numerals.{add-one}
 use native.Mathlib.Nat.{zero-add, add-zero}
@@ -14,21 +14,13 @@ use mir.Val.{Fits}
 use lib.Dec.{eqb, leb, ltb}
 use borrow.Author.Tests.{le-ltb, lt-ltb, lt-leb, le-leb, eq-eqb, ne_eqb, leb-true, leb-false, eqb-true, eqb-false, not-true, not-false}
 use Rattle.ipv4.specs.Parts.{parts, before, prepend, each, number}
-use Rattle.ipv4.specs.Ipv4.{ipv4, as_ipv4}
+use Rattle.ipv4.specs.Ipv4.{ipv4}
 use Rattle.ipv6.specs.Ipv6.{hex_digit, value_from, group, last_part, groups, side, gap, filled, eight, ipv6, upper, lower, as_ipv6}
-use Rattle.ipv6.specs.Groups.{as_group, no_groups, shifted, push, push_all, side_from, whole_of}
+use Rattle.ipv6.specs.Groups.{no_groups, shifted, push, push_all, side_from, whole_of}
 use Rattle.ipv6.specs.declared.Groups.{Groups}
-use Rattle.ipv6.specs.declared.GroupRead.{GroupRead}
-use Rattle.ipv6.specs.declared.GroupRead.TheVariants.{Group, Nothing as NoGroup}
-use Rattle.ipv6.specs.declared.SideRead.{SideRead}
-use Rattle.ipv6.specs.declared.SideRead.TheVariants.{Side, Nothing as NoSide}
-use Rattle.ipv4.specs.declared.Ipv4Read.{Ipv4Read}
-use Rattle.ipv4.specs.declared.Ipv4Read.TheVariants.{Address as Address4, Nothing as Nothing4}
-use Rattle.ipv6.specs.declared.Ipv6Read.{Ipv6Read}
-use Rattle.ipv6.specs.declared.Ipv6Read.TheVariants.{Address, Nothing}
 use Rattle.ipv4.proofs.Parts.{parts_last, parts_more, parts_cons, before_take, each_length, each_small, number_room}
 use Rattle.ipv4.proofs.Ipv4.{ipv4_small}
-use Rattle.ipv6.proofs.Ipv6.{digit_small}
+use Rattle.ipv6.proofs.Ipv6.{digit_small, option_some, option_none}
 
 pub push_n : (r : Groups) (g : ℕ) → (push r g).n ≡ r.n + 1
 unfolding push
@@ -49,60 +41,52 @@ push_all_append r [] b = refl
 push_all_append r (g ∷ a) b = push_all_append (push r g) a b
 
 -- what the answers say
-group_some : (m : Option ℕ) (x : GroupRead) (g : ℕ) → x ≡ as_group m → x ≡ Group g → m ≡ some g
-group_some (some h) x g e f = cc
-group_some none x g e f = let z : ◌≡◌ {A = ℕ} 0 1 = cc in absurd (omega arith)
+ipv4_some : (m : Option ℕ) (x : Option ℕ) (a : ℕ) → x ≡ m → x ≡ Some a → m ≡ Some a
+ipv4_some (Some b) x a e f = cc
+ipv4_some None x a e f = let z : ◌≡◌ {A = ℕ} 0 1 = cc in absurd (omega arith)
 
-group_none : (m : Option ℕ) (x : GroupRead) → x ≡ as_group m → x ≡ NoGroup → m ≡ none
-group_none (some h) x e f = let z : ◌≡◌ {A = ℕ} 0 1 = cc in absurd (omega arith)
-group_none none x e f = refl
-
-ipv4_some : (m : Option ℕ) (x : Ipv4Read) (a : ℕ) → x ≡ as_ipv4 m → x ≡ Address4 a → m ≡ some a
-ipv4_some (some b) x a e f = cc
-ipv4_some none x a e f = let z : ◌≡◌ {A = ℕ} 0 1 = cc in absurd (omega arith)
-
-ipv4_none : (m : Option ℕ) (x : Ipv4Read) → x ≡ as_ipv4 m → x ≡ Nothing4 → m ≡ none
-ipv4_none (some b) x e f = let z : ◌≡◌ {A = ℕ} 0 1 = cc in absurd (omega arith)
-ipv4_none none x e f = refl
+ipv4_none : (m : Option ℕ) (x : Option ℕ) → x ≡ m → x ≡ None → m ≡ None
+ipv4_none (Some b) x e f = let z : ◌≡◌ {A = ℕ} 0 1 = cc in absurd (omega arith)
+ipv4_none None x e f = refl
 
 -- one group in front
-from_prepend : (r : Groups) (g : ℕ) (m : Option (List ℕ)) → side_from r (prepend (some g) m) ≡ side_from (push r g) m
+from_prepend : (r : Groups) (g : ℕ) (m : Option (List ℕ)) → side_from r (prepend (Some g) m) ≡ side_from (push r g) m
 unfolding push_all
-from_prepend r g (some gs) = let z : (push r g).n + length gs ≡ r.n + suc (length gs) = omega (arith, push_n r g) in rw z
-from_prepend r g none = refl
+from_prepend r g (Some gs) = let z : (push r g).n + length gs ≡ r.n + suc (length gs) = omega (arith, push_n r g) in rw z
+from_prepend r g None = refl
 
 -- no room for it
-from_full : (r : Groups) (g : ℕ) (m : Option (List ℕ)) → 7 < r.n → side_from r (prepend (some g) m) ≡ NoSide
-from_full r g (some gs) h = simp (lt-leb (r.n + suc (length gs)) 8 (omega arith))
-from_full r g none h = refl
+from_full : (r : Groups) (g : ℕ) (m : Option (List ℕ)) → 7 < r.n → side_from r (prepend (Some g) m) ≡ None
+from_full r g (Some gs) h = simp (lt-leb (r.n + suc (length gs)) 8 (omega arith))
+from_full r g None h = refl
 
 -- the last part
-module _ (t : List ℕ) (dotted : Bool) (r : Groups) (x : GroupRead) (hx : x ≡ as_group (group t)) where
-  module _ (g : ℕ) (hg : x ≡ Group g) where
-    pub part_full : 7 < r.n → NoSide ≡ side_from r (last_part dotted (group t) (ipv4 t))
-    part_full h = rw (group_some (group t) x g hx hg) (simp (lt-leb (r.n + 1) 8 (omega arith)))
+module _ (t : List ℕ) (dotted : Bool) (r : Groups) (x : Option ℕ) (hx : x ≡ group t) where
+  module _ (g : ℕ) (hg : x ≡ Some g) where
+    pub part_full : 7 < r.n → None ≡ side_from r (last_part dotted (group t) (ipv4 t))
+    part_full h = rw (option_some (group t) x g hx hg) (simp (lt-leb (r.n + 1) 8 (omega arith)))
 
-    pub part_group : r.n ≤ 7 → (y : Groups) → y ≡ push r g → Side y ≡ side_from r (last_part dotted (group t) (ipv4 t))
+    pub part_group : r.n ≤ 7 → (y : Groups) → y ≡ push r g → Some y ≡ side_from r (last_part dotted (group t) (ipv4 t))
     unfolding push_all
-    part_group h y e = rw (group_some (group t) x g hx hg, e) (simp (le-leb (r.n + 1) 8 (omega arith)))
+    part_group h y e = rw (option_some (group t) x g hx hg, e) (simp (le-leb (r.n + 1) 8 (omega arith)))
 
-  module _ (hg : x ≡ NoGroup) where
-    pub part_bare : not dotted ≡ true → NoSide ≡ side_from r (last_part dotted (group t) (ipv4 t))
-    part_bare d = rw (group_none (group t) x hx hg, not-true dotted d)
+  module _ (hg : x ≡ None) where
+    pub part_bare : not dotted ≡ true → None ≡ side_from r (last_part dotted (group t) (ipv4 t))
+    part_bare d = rw (option_none (group t) x hx hg, not-true dotted d)
 
-    module _ (d : not dotted ≡ false) (y : Ipv4Read) (hy : y ≡ as_ipv4 (ipv4 t)) where
-      pub part_none : y ≡ Nothing4 → NoSide ≡ side_from r (last_part dotted (group t) (ipv4 t))
-      part_none e = rw (group_none (group t) x hx hg, not-false dotted d, ipv4_none (ipv4 t) y hy e)
+    module _ (d : not dotted ≡ false) (y : Option ℕ) (hy : y ≡ ipv4 t) where
+      pub part_none : y ≡ None → None ≡ side_from r (last_part dotted (group t) (ipv4 t))
+      part_none e = rw (option_none (group t) x hx hg, not-false dotted d, ipv4_none (ipv4 t) y hy e)
 
-      module _ (a : ℕ) (ha : y ≡ Address4 a) where
-        pub part_crowded : 6 < r.n → NoSide ≡ side_from r (last_part dotted (group t) (ipv4 t))
+      module _ (a : ℕ) (ha : y ≡ Some a) where
+        pub part_crowded : 6 < r.n → None ≡ side_from r (last_part dotted (group t) (ipv4 t))
         part_crowded h =
-            rw (group_none (group t) x hx hg, not-false dotted d, ipv4_some (ipv4 t) y a hy ha) (simp (lt-leb (r.n + 2) 8 (omega arith)))
+            rw (option_none (group t) x hx hg, not-false dotted d, ipv4_some (ipv4 t) y a hy ha) (simp (lt-leb (r.n + 2) 8 (omega arith)))
 
-        pub part_dotted : r.n ≤ 6 → (z w : Groups) → z ≡ push r (a / 65536) → w ≡ push z (a % 65536) → Side w ≡ side_from r (last_part dotted (group t) (ipv4 t))
+        pub part_dotted : r.n ≤ 6 → (z w : Groups) → z ≡ push r (a / 65536) → w ≡ push z (a % 65536) → Some w ≡ side_from r (last_part dotted (group t) (ipv4 t))
         unfolding push_all
         part_dotted h z w e f =
-            rw (group_none (group t) x hx hg, not-false dotted d, ipv4_some (ipv4 t) y a hy ha, f, e) (simp (le-leb (r.n + 2) 8 (omega arith)))
+            rw (option_none (group t) x hx hg, not-false dotted d, ipv4_some (ipv4 t) y a hy ha, f, e) (simp (le-leb (r.n + 2) 8 (omega arith)))
 
 pub push_le : (r z : Groups) (g : ℕ) → z ≡ push r g → r.n ≤ 7 → z.n ≤ 8
 push_le r z g e h = rw e (omega (arith, push_n r g))
@@ -111,7 +95,7 @@ pub push_le_6 : (r z : Groups) (g : ℕ) → z ≡ push r g → r.n ≤ 6 → z.
 push_le_6 r z g e h = rw e (omega (arith, push_n r g))
 
 -- a side
-pub side_empty : (s : List ℕ) (dotted : Bool) (r : Groups) → length s ≡ 0 → r.n ≤ 8 → Side r ≡ side_from r (side dotted s)
+pub side_empty : (s : List ℕ) (dotted : Bool) (r : Groups) → length s ≡ 0 → r.n ≤ 8 → Some r ≡ side_from r (side dotted s)
 unfolding side push_all
 side_empty [] dotted r h l = simp (le-leb (r.n + 0) 8 (omega arith))
 side_empty (b ∷ s) dotted r h l = absurd (omega arith)
@@ -129,26 +113,26 @@ groups_more dotted p u = rw (parts_cons 58 u)
 -- the groups so far are in r, and the others are those of t
 module _ (s t : List ℕ) (dotted : Bool) (r₀ r : Groups) (inv : side_from r₀ (side dotted s) ≡ side_from r (groups dotted (parts 58 t)))
     (e : ℕ) (he : e ≡ length (before 58 t)) where
-  pub side_last : length t ≤ e → (z : SideRead) → z ≡ side_from r (last_part dotted (group t) (ipv4 t)) → z ≡ side_from r₀ (side dotted s)
+  pub side_last : length t ≤ e → (z : Option Groups) → z ≡ side_from r (last_part dotted (group t) (ipv4 t)) → z ≡ side_from r₀ (side dotted s)
   unfolding groups
   side_last h z f = f ∙ sym (inv ∙ rw (parts_last 58 t (omega arith), ← before_take 58 t, ← he, take_all e t h))
 
-  module _ (h : e < length t) (x : GroupRead) (hx : x ≡ as_group (group (take e t))) where
+  module _ (h : e < length t) (x : Option ℕ) (hx : x ≡ group (take e t)) where
     first : groups dotted (parts 58 t) ≡ prepend (group (take e t)) (groups dotted (parts 58 (drop (e + 1) t)))
     first = rw (parts_more 58 t (omega arith), ← he, add-one) (groups_more dotted (before 58 t) (drop (suc e) t) ∙ rw (← before_take 58 t, ← he))
 
-    pub side_stop : x ≡ NoGroup → NoSide ≡ side_from r₀ (side dotted s)
-    side_stop g = rw (inv, first, group_none (group (take e t)) x hx g)
+    pub side_stop : x ≡ None → None ≡ side_from r₀ (side dotted s)
+    side_stop g = rw (inv, first, option_none (group (take e t)) x hx g)
 
-    module _ (g : ℕ) (hg : x ≡ Group g) where
-      pub side_full : 7 < r.n → NoSide ≡ side_from r₀ (side dotted s)
-      side_full l = sym (inv ∙ rw (first, group_some (group (take e t)) x g hx hg) (from_full r g (groups dotted (parts 58 (drop (e + 1) t))) l))
+    module _ (g : ℕ) (hg : x ≡ Some g) where
+      pub side_full : 7 < r.n → None ≡ side_from r₀ (side dotted s)
+      side_full l = sym (inv ∙ rw (first, option_some (group (take e t)) x g hx hg) (from_full r g (groups dotted (parts 58 (drop (e + 1) t))) l))
 
       pub side_next : (z : Groups) → z ≡ push r g
           → side_from r₀ (side dotted s) ≡ side_from z (groups dotted (parts 58 (take (length t - (e + 1)) (drop (e + 1) t))))
       side_next z f =
           inv
-          ∙ rw (first, group_some (group (take e t)) x g hx hg, take_all (length t - (e + 1)) (drop (e + 1) t) (simp length-drop (omega arith)), f)
+          ∙ rw (first, option_some (group (take e t)) x g hx hg, take_all (length t - (e + 1)) (drop (e + 1) t) (simp length-drop (omega arith)), f)
           (from_prepend r g (groups dotted (parts 58 (drop (e + 1) t))))
 
 -- zero groups
@@ -164,10 +148,10 @@ module _ (r₀ r : Groups) (m n : ℕ) (hn : n ≡ r.n) (inv : push_all r₀ (re
   unfolding push_all
   fill_end h = let k : m - n ≡ 0 = omega arith in sym (inv ∙ rw k)
 
-pub whole_yes : (r : Groups) → r.n ≡ 8 → Address r.upper r.lower ≡ whole_of r
+pub whole_yes : (r : Groups) → r.n ≡ 8 → Some (r.upper, r.lower) ≡ whole_of r
 whole_yes r h = simp (eq-eqb r.n 8 h)
 
-pub whole_no : (r : Groups) → (r.n ≡ 8 → ⊥) → Nothing ≡ whole_of r
+pub whole_no : (r : Groups) → (r.n ≡ 8 → ⊥) → None ≡ whole_of r
 whole_no r h = simp (ne_eqb r.n 8 h)
 
 -- every group is below 2 ^ 16
@@ -183,44 +167,44 @@ pub below_zeros : (n : ℕ) → Below (replicate n 0)
 below_zeros zero = tt
 below_zeros (suc n) = (omega arith, below_zeros n)
 
-pub group_small : (p : List ℕ) (g : ℕ) → group p ≡ some g → g < 65536
+pub group_small : (p : List ℕ) (g : ℕ) → group p ≡ Some g → g < 65536
 unfolding group
 group_small p g = go (each hex_digit p) refl (leb 1 (length p)) (leb (length p) 4) refl
   where
-    go : (m : Option (List ℕ)) → each hex_digit p ≡ m → (t u : Bool) → leb (length p) 4 ≡ u → cond (t && u) (value_from 16 0 m) none ≡ some g → g < 65536
-    go (some ds) e true true f h =
+    go : (m : Option (List ℕ)) → each hex_digit p ≡ m → (t u : Bool) → leb (length p) 4 ≡ u → cond (t && u) (value_from 16 0 m) None ≡ Some g → g < 65536
+    go (Some ds) e true true f h =
         let y : number 16 0 ds ≡ g = cc in
         let x : number 16 0 ds < 16 ^ (0 + length ds) = each_small hex_digit 16 digit_small p ds e 0 0 (omega arith) in
         let w : number 16 0 ds < 16 ^ 4 = number_room {m = 4} (omega arith) x (omega (arith, each_length hex_digit p ds e, leb-true (length p) 4 f)) in
         rw y at w
-    go (some ds) e true false f h = let z : ◌≡◌ {A = ℕ} 0 1 = cc in absurd (omega arith)
-    go (some ds) e false u f h = let z : ◌≡◌ {A = ℕ} 0 1 = cc in absurd (omega arith)
-    go none e true true f h = let z : ◌≡◌ {A = ℕ} 0 1 = cc in absurd (omega arith)
-    go none e true false f h = let z : ◌≡◌ {A = ℕ} 0 1 = cc in absurd (omega arith)
-    go none e false u f h = let z : ◌≡◌ {A = ℕ} 0 1 = cc in absurd (omega arith)
+    go (Some ds) e true false f h = let z : ◌≡◌ {A = ℕ} 0 1 = cc in absurd (omega arith)
+    go (Some ds) e false u f h = let z : ◌≡◌ {A = ℕ} 0 1 = cc in absurd (omega arith)
+    go None e true true f h = let z : ◌≡◌ {A = ℕ} 0 1 = cc in absurd (omega arith)
+    go None e true false f h = let z : ◌≡◌ {A = ℕ} 0 1 = cc in absurd (omega arith)
+    go None e false u f h = let z : ◌≡◌ {A = ℕ} 0 1 = cc in absurd (omega arith)
 
-last_small : (dotted : Bool) (p gs : List ℕ) → last_part dotted (group p) (ipv4 p) ≡ some gs → Below gs
+last_small : (dotted : Bool) (p gs : List ℕ) → last_part dotted (group p) (ipv4 p) ≡ Some gs → Below gs
 last_small dotted p gs = go dotted (group p) refl (ipv4 p) refl
   where
-    go : (d : Bool) (m : Option ℕ) → group p ≡ m → (n : Option ℕ) → ipv4 p ≡ n → last_part d m n ≡ some gs → Below gs
-    go d (some g) e n f h = let z : g ∷ [] ≡ gs = cc in subst Below z (group_small p g e, tt)
-    go true none e (some a) f h =
+    go : (d : Bool) (m : Option ℕ) → group p ≡ m → (n : Option ℕ) → ipv4 p ≡ n → last_part d m n ≡ Some gs → Below gs
+    go d (Some g) e n f h = let z : g ∷ [] ≡ gs = cc in subst Below z (group_small p g e, tt)
+    go true None e (Some a) f h =
         let z : a / 65536 ∷ a % 65536 ∷ [] ≡ gs = cc in subst Below z (omega (arith, ipv4_small p a f), (omega arith, tt))
-    go true none e none f h = let z : ◌≡◌ {A = ℕ} 0 1 = cc in absurd (omega arith)
-    go false none e n f h = let z : ◌≡◌ {A = ℕ} 0 1 = cc in absurd (omega arith)
+    go true None e None f h = let z : ◌≡◌ {A = ℕ} 0 1 = cc in absurd (omega arith)
+    go false None e n f h = let z : ◌≡◌ {A = ℕ} 0 1 = cc in absurd (omega arith)
 
-groups_small : (dotted : Bool) (ps : List (List ℕ)) (gs : List ℕ) → groups dotted ps ≡ some gs → Below gs
+groups_small : (dotted : Bool) (ps : List (List ℕ)) (gs : List ℕ) → groups dotted ps ≡ Some gs → Below gs
 unfolding groups
 groups_small dotted [] gs h = let z : [] ≡ gs = cc in subst Below z tt
 groups_small dotted (p ∷ []) gs h = last_small dotted p gs h
 groups_small dotted (p ∷ q ∷ ps) gs h = go (group p) refl (groups dotted (q ∷ ps)) (groups_small dotted (q ∷ ps)) h
   where
-    go : (m : Option ℕ) → group p ≡ m → (n : Option (List ℕ)) → ((l : List ℕ) → n ≡ some l → Below l) → prepend m n ≡ some gs → Below gs
-    go (some g) e (some l) ih f = let z : g ∷ l ≡ gs = cc in subst Below z (group_small p g e, ih l refl)
-    go (some g) e none ih f = let z : ◌≡◌ {A = ℕ} 0 1 = cc in absurd (omega arith)
-    go none e n ih f = let z : ◌≡◌ {A = ℕ} 0 1 = cc in absurd (omega arith)
+    go : (m : Option ℕ) → group p ≡ m → (n : Option (List ℕ)) → ((l : List ℕ) → n ≡ Some l → Below l) → prepend m n ≡ Some gs → Below gs
+    go (Some g) e (Some l) ih f = let z : g ∷ l ≡ gs = cc in subst Below z (group_small p g e, ih l refl)
+    go (Some g) e None ih f = let z : ◌≡◌ {A = ℕ} 0 1 = cc in absurd (omega arith)
+    go None e n ih f = let z : ◌≡◌ {A = ℕ} 0 1 = cc in absurd (omega arith)
 
-pub side_small : (dotted : Bool) (s gs : List ℕ) → side dotted s ≡ some gs → Below gs
+pub side_small : (dotted : Bool) (s gs : List ℕ) → side dotted s ≡ Some gs → Below gs
 unfolding side
 side_small dotted [] gs h = let z : [] ≡ gs = cc in subst Below z tt
 side_small dotted (b ∷ s) gs h = groups_small dotted (parts 58 (b ∷ s)) gs h
@@ -250,61 +234,61 @@ halves (a ∷ b ∷ c ∷ d ∷ e ∷ f ∷ g ∷ h ∷ []) l s =
 halves (a ∷ b ∷ c ∷ d ∷ e ∷ f ∷ g ∷ h ∷ i ∷ gs) l s = absurd (omega arith)
 
 -- the groups of eight, as the code answers them
-pub whole_eight : (gs : List ℕ) → length gs ≡ 8 → Below gs → whole_of (push_all no_groups gs) ≡ Address (upper gs) (lower gs)
+pub whole_eight : (gs : List ℕ) → length gs ≡ 8 → Below gs → whole_of (push_all no_groups gs) ≡ Some (upper gs, lower gs)
 whole_eight gs h s =
     simp (eq-eqb (push_all no_groups gs).n 8 (push_all_n no_groups gs ∙ zero-add (length gs) ∙ h), (halves gs h s).0, (halves gs h s).1)
 
 -- what a side's answer says of its groups
-known : (r : Groups) (m : Option (List ℕ)) (x : SideRead) (y : Groups) → x ≡ side_from r m → x ≡ Side y
-    → (gs : List ℕ) × (m ≡ some gs) × (y ≡ push_all r gs) × (r.n + length gs ≤ 8)
-known r (some gs) x y e f = go (leb (r.n + length gs) 8) refl (sym e ∙ f)
+known : (r : Groups) (m : Option (List ℕ)) (x : Option Groups) (y : Groups) → x ≡ side_from r m → x ≡ Some y
+    → (gs : List ℕ) × (m ≡ Some gs) × (y ≡ push_all r gs) × (r.n + length gs ≤ 8)
+known r (Some gs) x y e f = go (leb (r.n + length gs) 8) refl (sym e ∙ f)
   where
-    go : (t : Bool) → leb (r.n + length gs) 8 ≡ t → cond {A = SideRead} t (Side (push_all r gs)) NoSide ≡ Side y
-        → (hs : List ℕ) × (some gs ≡ some hs) × (y ≡ push_all r hs) × (r.n + length hs ≤ 8)
+    go : (t : Bool) → leb (r.n + length gs) 8 ≡ t → cond {A = Option Groups} t (Some (push_all r gs)) None ≡ Some y
+        → (hs : List ℕ) × (Some gs ≡ Some hs) × (y ≡ push_all r hs) × (r.n + length hs ≤ 8)
     go true p q = (gs, refl, cc, leb-true (r.n + length gs) 8 p)
     go false p q = let z : ◌≡◌ {A = ℕ} 0 1 = cc in absurd (omega arith)
-known r none x y e f = let z : ◌≡◌ {A = ℕ} 0 1 = cc in absurd (omega arith)
+known r None x y e f = let z : ◌≡◌ {A = ℕ} 0 1 = cc in absurd (omega arith)
 
 -- none, or more than eight
-unknown : (r : Groups) (m : Option (List ℕ)) (x : SideRead) → x ≡ side_from r m → x ≡ NoSide → (gs : List ℕ) → m ≡ some gs → 8 < r.n + length gs
+unknown : (r : Groups) (m : Option (List ℕ)) (x : Option Groups) → x ≡ side_from r m → x ≡ None → (gs : List ℕ) → m ≡ Some gs → 8 < r.n + length gs
 unknown r m x e f gs h = go (leb (r.n + length gs) 8) refl (sym f ∙ e ∙ ap (side_from r) h)
   where
-    go : (t : Bool) → leb (r.n + length gs) 8 ≡ t → NoSide ≡ cond {A = SideRead} t (Side (push_all r gs)) NoSide → 8 < r.n + length gs
+    go : (t : Bool) → leb (r.n + length gs) 8 ≡ t → None ≡ cond {A = Option Groups} t (Some (push_all r gs)) None → 8 < r.n + length gs
     go true p q = let z : ◌≡◌ {A = ℕ} 0 1 = cc in absurd (omega arith)
     go false p q = leb-false (r.n + length gs) 8 p
 
 -- the groups of both sides with the zero groups between them
 assembled : (a b : List ℕ) (n : ℕ) → n ≡ 8 - length b - length a → length a + length b ≤ 7 → Below a → Below b
-    → whole_of (push_all (push_all (push_all no_groups a) (replicate n 0)) b) ≡ as_ipv6 (filled (some a) (some b))
+    → whole_of (push_all (push_all (push_all no_groups a) (replicate n 0)) b) ≡ as_ipv6 (filled (Some a) (Some b))
 assembled a b n e h p q =
     ap whole_of (sym (push_all_append no_groups a (replicate n 0 ++ b) ∙ push_all_append (push_all no_groups a) (replicate n 0) b))
     ∙ whole_eight (a ++ (replicate n 0 ++ b)) (simp (length-append, length-replicate) (omega arith)) (below_append a (replicate n 0 ++ b) p (below_append (replicate n 0) b (below_zeros n) q))
     ∙ simp (← e, le-leb (length a + length b) 7 h)
 
 -- left and right of "::"
-module _ (l r : List ℕ) (x : SideRead) (hx : x ≡ side_from no_groups (side false l)) where
-  pub around_left : x ≡ NoSide → Nothing ≡ as_ipv6 (filled (side false l) (side true r))
+module _ (l r : List ℕ) (x : Option Groups) (hx : x ≡ side_from no_groups (side false l)) where
+  pub around_left : x ≡ None → None ≡ as_ipv6 (filled (side false l) (side true r))
   around_left e = go (side false l) (side true r) (unknown no_groups (side false l) x hx e)
     where
-      go : (m n : Option (List ℕ)) → ((gs : List ℕ) → m ≡ some gs → 8 < 0 + length gs) → Nothing ≡ as_ipv6 (filled m n)
-      go (some a) (some b) h = let z : 8 < 0 + length a = h a refl in simp (lt-leb (length a + length b) 7 (omega arith))
-      go (some a) none h = refl
-      go none n h = refl
+      go : (m n : Option (List ℕ)) → ((gs : List ℕ) → m ≡ Some gs → 8 < 0 + length gs) → None ≡ as_ipv6 (filled m n)
+      go (Some a) (Some b) h = let z : 8 < 0 + length a = h a refl in simp (lt-leb (length a + length b) 7 (omega arith))
+      go (Some a) None h = refl
+      go None n h = refl
 
-  module _ (a : Groups) (ha : x ≡ Side a) (y : SideRead) (hy : y ≡ side_from no_groups (side true r)) where
-    pub around_right : y ≡ NoSide → Nothing ≡ as_ipv6 (filled (side false l) (side true r))
+  module _ (a : Groups) (ha : x ≡ Some a) (y : Option Groups) (hy : y ≡ side_from no_groups (side true r)) where
+    pub around_right : y ≡ None → None ≡ as_ipv6 (filled (side false l) (side true r))
     around_right e = go (side false l) (side true r) (unknown no_groups (side true r) y hy e)
       where
-        go : (m n : Option (List ℕ)) → ((gs : List ℕ) → n ≡ some gs → 8 < 0 + length gs) → Nothing ≡ as_ipv6 (filled m n)
-        go (some c) (some b) h = let z : 8 < 0 + length b = h b refl in simp (lt-leb (length c + length b) 7 (omega arith))
-        go (some c) none h = refl
-        go none n h = refl
+        go : (m n : Option (List ℕ)) → ((gs : List ℕ) → n ≡ Some gs → 8 < 0 + length gs) → None ≡ as_ipv6 (filled m n)
+        go (Some c) (Some b) h = let z : 8 < 0 + length b = h b refl in simp (lt-leb (length c + length b) 7 (omega arith))
+        go (Some c) None h = refl
+        go None n h = refl
 
-    module _ (b : Groups) (hb : y ≡ Side b) where
-      left : (gs : List ℕ) × (side false l ≡ some gs) × (a ≡ push_all no_groups gs) × (0 + length gs ≤ 8)
+    module _ (b : Groups) (hb : y ≡ Some b) where
+      left : (gs : List ℕ) × (side false l ≡ Some gs) × (a ≡ push_all no_groups gs) × (0 + length gs ≤ 8)
       left = known no_groups (side false l) x a hx ha
 
-      right : (gs : List ℕ) × (side true r ≡ some gs) × (b ≡ push_all no_groups gs) × (0 + length gs ≤ 8)
+      right : (gs : List ℕ) × (side true r ≡ Some gs) × (b ≡ push_all no_groups gs) × (0 + length gs ≤ 8)
       right = known no_groups (side true r) y b hy hb
 
       left_n : a.n ≡ length left.0
@@ -316,7 +300,7 @@ module _ (l r : List ℕ) (x : SideRead) (hx : x ≡ side_from no_groups (side f
       pub count_fits : Fits w64 (a.n + b.n)
       count_fits = record { fits = omega (arith, left_n, right_n, left.3, right.3) }
 
-      pub around_many : 7 < a.n + b.n → Nothing ≡ as_ipv6 (filled (side false l) (side true r))
+      pub around_many : 7 < a.n + b.n → None ≡ as_ipv6 (filled (side false l) (side true r))
       around_many h = rw (left.1, right.1) (simp (lt-leb (length left.0 + length right.0) 7 (omega (arith, left_n, right_n))))
 
       module _ (few : a.n + b.n ≤ 7) (z : Groups) (hz : z ≡ push_all a (replicate (8 - b.n - a.n) 0)) where
@@ -328,17 +312,17 @@ module _ (l r : List ℕ) (x : SideRead) (hx : x ≡ side_from no_groups (side f
         pub fill_le : z.n ≤ 8
         fill_le = omega (arith, fill_count)
 
-        module _ (w : SideRead) (hw : w ≡ side_from z (side true r)) where
-          pub around_over : w ≡ NoSide → Nothing ≡ as_ipv6 (filled (side false l) (side true r))
+        module _ (w : Option Groups) (hw : w ≡ side_from z (side true r)) where
+          pub around_over : w ≡ None → None ≡ as_ipv6 (filled (side false l) (side true r))
           around_over e = absurd (omega (arith, unknown z (side true r) w hw e right.0 right.1, fill_count, right_n))
 
-          pub around_whole : (q : Groups) → w ≡ Side q → (v : Ipv6Read) → v ≡ whole_of q → v ≡ as_ipv6 (filled (side false l) (side true r))
+          pub around_whole : (q : Groups) → w ≡ Some q → (v : Option (ℕ × ℕ)) → v ≡ whole_of q → v ≡ as_ipv6 (filled (side false l) (side true r))
           around_whole q hq v hv = hv ∙ go left.0 right.0 k.0 left.1 right.1 left.2 k.1 k.2 left_n right_n
             where
-              k : (gs : List ℕ) × (side true r ≡ some gs) × (q ≡ push_all z gs) × (z.n + length gs ≤ 8)
+              k : (gs : List ℕ) × (side true r ≡ Some gs) × (q ≡ push_all z gs) × (z.n + length gs ≤ 8)
               k = known z (side true r) w q hw hq
 
-              go : (gl gr gs : List ℕ) → side false l ≡ some gl → side true r ≡ some gr → a ≡ push_all no_groups gl → side true r ≡ some gs → q ≡ push_all z gs
+              go : (gl gr gs : List ℕ) → side false l ≡ Some gl → side true r ≡ Some gr → a ≡ push_all no_groups gl → side true r ≡ Some gs → q ≡ push_all z gs
                   → a.n ≡ length gl → b.n ≡ length gr → whole_of q ≡ as_ipv6 (filled (side false l) (side true r))
               go gl gr gs el er ea es eq na nb =
                   let same : gs ≡ gr = cc in
@@ -349,33 +333,33 @@ module _ (l r : List ℕ) (x : SideRead) (hx : x ≡ side_from no_groups (side f
 
 -- the whole text
 module _ (s : List ℕ) (k : ℕ) (hk : k ≡ gap s) where
-  pub gap_text : k < length s → (v : Ipv6Read) → v ≡ as_ipv6 (filled (side false (take k s)) (side true (take (length s - (k + 2)) (drop (k + 2) s)))) → v ≡ as_ipv6 (ipv6 s)
+  pub gap_text : k < length s → (v : Option (ℕ × ℕ)) → v ≡ as_ipv6 (filled (side false (take k s)) (side true (take (length s - (k + 2)) (drop (k + 2) s)))) → v ≡ as_ipv6 (ipv6 s)
   unfolding ipv6
   gap_text h v e =
       e ∙ rw (take_all (length s - (k + 2)) (drop (k + 2) s) (simp length-drop (omega arith)), hk) (simp (lt-ltb (gap s) (length s) (omega arith)))
 
-  module _ (h : length s ≤ k) (x : SideRead) (hx : x ≡ side_from no_groups (side true s)) where
+  module _ (h : length s ≤ k) (x : Option Groups) (hx : x ≡ side_from no_groups (side true s)) where
     plain : ipv6 s ≡ eight (side true s)
     unfolding ipv6
     plain = simp (le-ltb (gap s) (length s) (omega arith))
 
-    pub plain_none : x ≡ NoSide → Nothing ≡ as_ipv6 (ipv6 s)
+    pub plain_none : x ≡ None → None ≡ as_ipv6 (ipv6 s)
     plain_none e = rw plain (go (side true s) (unknown no_groups (side true s) x hx e))
       where
-        go : (m : Option (List ℕ)) → ((gs : List ℕ) → m ≡ some gs → 8 < 0 + length gs) → Nothing ≡ as_ipv6 (eight m)
-        go (some a) h = let z : 8 < 0 + length a = h a refl in simp (ne_eqb (length a) 8 (λ f. omega arith))
-        go none h = refl
+        go : (m : Option (List ℕ)) → ((gs : List ℕ) → m ≡ Some gs → 8 < 0 + length gs) → None ≡ as_ipv6 (eight m)
+        go (Some a) h = let z : 8 < 0 + length a = h a refl in simp (ne_eqb (length a) 8 (λ f. omega arith))
+        go None h = refl
 
-    pub plain_whole : (q : Groups) → x ≡ Side q → (v : Ipv6Read) → v ≡ whole_of q → v ≡ as_ipv6 (ipv6 s)
+    pub plain_whole : (q : Groups) → x ≡ Some q → (v : Option (ℕ × ℕ)) → v ≡ whole_of q → v ≡ as_ipv6 (ipv6 s)
     plain_whole q hq v hv = hv ∙ rw plain (go found.0 found.1 found.2)
       where
-        found : (gs : List ℕ) × (side true s ≡ some gs) × (q ≡ push_all no_groups gs) × (0 + length gs ≤ 8)
+        found : (gs : List ℕ) × (side true s ≡ Some gs) × (q ≡ push_all no_groups gs) × (0 + length gs ≤ 8)
         found = known no_groups (side true s) x q hx hq
 
-        count : (gs : List ℕ) → side true s ≡ some gs → (t : Bool) → eqb (length gs) 8 ≡ t → whole_of (push_all no_groups gs) ≡ as_ipv6 (cond t (some gs) none)
+        count : (gs : List ℕ) → side true s ≡ Some gs → (t : Bool) → eqb (length gs) 8 ≡ t → whole_of (push_all no_groups gs) ≡ as_ipv6 (cond t (Some gs) None)
         count gs es true e = whole_eight gs (eqb-true (length gs) 8 e) (side_small true s gs es)
         count gs es false e =
             simp (ne_eqb (push_all no_groups gs).n 8 (λ f. eqb-false (length gs) 8 e (sym (zero-add (length gs)) ∙ sym (push_all_n no_groups gs) ∙ f)))
 
-        go : (gs : List ℕ) → side true s ≡ some gs → q ≡ push_all no_groups gs → whole_of q ≡ as_ipv6 (eight (side true s))
+        go : (gs : List ℕ) → side true s ≡ Some gs → q ≡ push_all no_groups gs → whole_of q ≡ as_ipv6 (eight (side true s))
         go gs es eq = rw (eq, es) (count gs es (eqb (length gs) 8) refl)

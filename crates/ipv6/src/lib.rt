@@ -1,73 +1,38 @@
 // IPv6 addresses, read from text as RFC 4291 and 01 say.
 #![tactic(auto)]
 
-ghost use Rattle.std.specs.Prelude.{◌≡◌, ◌+◌, ◌-◌, ◌≤◌, true, false, length, replicate};
-ghost use Rattle.std.proofs.Math.Option.{get_or};
+ghost use Rattle.std.specs.Prelude.{◌≡◌, ◌+◌, ◌-◌, ◌≤◌, ◌==◌, true, false, length, replicate, position};
 ghost use Rattle.ipv4.specs.Parts.{before};
 ghost use Rattle.ipv4.specs.Ipv4.{ipv4};
 ghost use Rattle.ipv6.specs.Ipv6.{hex_digit, group as group_of, last_part, side as side_of, gap as gap_of, filled, as_ipv6, read_ipv6};
-ghost use Rattle.ipv6.specs.Groups.{as_group, push as pushed, push_all, side_from, whole_of};
+ghost use Rattle.ipv6.specs.Groups.{shifted, push as pushed, push_all, side_from, whole_of};
 
-use ipv4::Ipv4Read;
-
-#[derive(Clone, Copy)]
-pub enum Ipv6Read {
-    Address(u64, u64),
-    Nothing,
-}
-
-// What a hexadecimal digit stands for; 16 for any other byte.
-fn hex_digit(b: u8) -> u8
-    ensures { result ≡ get_or (hex_digit b) 16 }
+// What a hexadecimal digit stands for.
+#[tactic(auto, using(crate::proofs::Ipv6::from_0, crate::proofs::Ipv6::from_A, crate::proofs::Ipv6::from_a, crate::proofs::Ipv6::no_hex_digit))]
+fn hex_digit(b: u8) -> Option<u8>
+    ensures { result ≡ hex_digit b }
 {
-    if b < b'0' {
-        return 16;
+    match b {
+        b'0'..=b'9' => Some(b - b'0'),
+        b'A'..=b'F' => Some(b - b'A' + 10),
+        b'a'..=b'f' => Some(b - b'a' + 10),
+        _ => None,
     }
-    if b <= b'9' {
-        return b - 48;
-    }
-    if b < b'A' {
-        return 16;
-    }
-    if b <= b'F' {
-        return b - 55;
-    }
-    if b < b'a' {
-        return 16;
-    }
-    if b <= b'f' {
-        return b - 87;
-    }
-    16
 }
 
-#[derive(Clone, Copy)]
-enum GroupRead {
-    Group(u16),
-    Nothing,
-}
-
-#[tactic(auto, using(crate::proofs::Ipv6::group_empty, crate::proofs::Ipv6::group_long))]
-fn group(p: &[u8]) -> GroupRead
-    ensures { result ≡ as_group (group_of p.now) }
+#[tactic(auto, using(crate::proofs::Ipv6::group_empty, crate::proofs::Ipv6::group_long, crate::proofs::Ipv6::group_from, crate::proofs::Ipv6::group_whole, crate::proofs::Ipv6::group_stop, crate::proofs::Ipv6::group_more, crate::proofs::Ipv6::hex_small, crate::proofs::Ipv6::hex_room, crate::proofs::Ipv6::hex_room_for, crate::proofs::Ipv6::hex_grows))]
+fn group(p: &[u8]) -> Option<u16>
+    ensures { result ≡ group_of p.now }
 {
-    if p.len() == 0 {
-        return GroupRead::Nothing;
+    if p.is_empty() || 4 < p.len() {
+        return None;
     }
-    if 4 < p.len() {
-        return GroupRead::Nothing;
+    let mut v: u16 = 0;
+    for b in p {
+        let d = hex_digit(*b)?;
+        v = v * 16 + u16::from(d);
     }
-    let mut i = 0;
-    let mut v: u32 = 0;
-    while i < p.len() {
-        let d = hex_digit(p[i]);
-        if 15 < d {
-            return GroupRead::Nothing;
-        }
-        v = v * 16 + d as u32;
-        i += 1;
-    }
-    GroupRead::Group(v as u16)
+    Some(v)
 }
 
 // How many groups are read, and the two halves that they make.
@@ -78,111 +43,107 @@ struct Groups {
     lower: u64,
 }
 
+const NO_GROUPS: Groups = Groups {
+    n: 0,
+    upper: 0,
+    lower: 0,
+};
+
+// One group more in a half; what does not fit falls out at the top.
+fn shifted(x: u64, g: u16) -> u64
+    ensures { result ≡ shifted x g }
+{
+    x % 0x1_0000_0000_0000 * 0x1_0000 + u64::from(g)
+}
+
+#[tactic(auto, using(crate::proofs::Ipv6::push_upper, crate::proofs::Ipv6::push_lower))]
 fn push(r: Groups, g: u16) -> Groups
     requires { r.n ≤ 8 }
     ensures { result ≡ pushed r g }
 {
-    let n = r.n;
-    let u = r.upper;
-    let l = r.lower;
-    if n < 4 {
+    let n = r.n + 1;
+    if r.n < 4 {
         Groups {
-            n: n + 1,
-            upper: u % 281474976710656 * 65536 + g as u64,
-            lower: l,
+            n,
+            upper: shifted(r.upper, g),
+            ..r
         }
     } else {
         Groups {
-            n: n + 1,
-            upper: u,
-            lower: l % 281474976710656 * 65536 + g as u64,
+            n,
+            lower: shifted(r.lower, g),
+            ..r
         }
     }
 }
 
-#[derive(Clone, Copy)]
-enum SideRead {
-    Side(Groups),
-    Nothing,
+fn first_place(t: &[u8], c: u8) -> Option<usize>
+    ensures { result ≡ position (λ b. b == c) t.now }
+{
+    t.iter().position(|b| *b == c)
 }
 
 // Where the first part of t ends.
+#[tactic(auto, using(crate::proofs::Ipv6::end_position))]
 fn part_end(t: &[u8], c: u8) -> usize
     ensures { result ≡ length (before c t.now) }
 {
-    let mut i = 0;
-    while i < t.len() {
-        if t[i] == c {
-            return i;
-        }
-        i += 1;
-    }
-    i
+    first_place(t, c).unwrap_or(t.len())
 }
 
 // The place of the first "::".
+#[tactic(auto, using(crate::proofs::Ipv6::gap_at, crate::proofs::Ipv6::gap_none))]
 fn gap(s: &[u8]) -> usize
     ensures { result ≡ gap_of s.now }
 {
-    let mut i = 0;
-    while i + 1 < s.len() {
-        let j = i + 1;
-        if (s[i] == b':') & (s[j] == b':') {
-            return i;
-        }
-        i = j;
+    match scan::find(s, b"::") {
+        Some(k) => k,
+        None => s.len(),
     }
-    s.len()
 }
 
 // The last part of a side: a group, or where that is allowed an IPv4 address.
-fn last_part(t: &[u8], dotted: bool, r: Groups) -> SideRead
+#[tactic(auto, using(crate::proofs::Sides::part_full, crate::proofs::Sides::part_group, crate::proofs::Sides::part_bare, crate::proofs::Sides::part_none, crate::proofs::Sides::part_crowded, crate::proofs::Sides::part_dotted, crate::proofs::Sides::push_le_6))]
+fn last_part(t: &[u8], dotted: bool, r: Groups) -> Option<Groups>
     requires { r.n ≤ 8 }
     ensures { result ≡ side_from r (last_part dotted (group_of t.now) (ipv4 t.now)) }
 {
-    let n = r.n;
-    let first = group(t);
-    match first {
-        GroupRead::Group(g) => {
-            if 7 < n {
-                return SideRead::Nothing;
-            }
-            SideRead::Side(push(r, g))
+    if let Some(g) = group(t) {
+        if 7 < r.n {
+            return None;
         }
-        GroupRead::Nothing => {
-            if !dotted {
-                return SideRead::Nothing;
-            }
-            let Ipv4Read::Address(a) = ipv4::read_ipv4(t) else {
-                return SideRead::Nothing;
-            };
-            if 6 < n {
-                return SideRead::Nothing;
-            }
-            let x = push(r, (a / 65536) as u16);
-            SideRead::Side(push(x, (a % 65536) as u16))
-        }
+        return Some(push(r, g));
     }
+    if !dotted {
+        return None;
+    }
+    let Some(a) = ipv4::read_ipv4(t) else {
+        return None;
+    };
+    if 6 < r.n {
+        return None;
+    }
+    let x = push(r, (a / 65536) as u16);
+    Some(push(x, (a % 65536) as u16))
 }
 
 // The groups of s behind those of `start`, at most eight in all.
-fn side(s: &[u8], dotted: bool, start: Groups) -> SideRead
+#[tactic(auto, using(crate::proofs::Sides::push_le, crate::proofs::Sides::side_empty, crate::proofs::Sides::side_start, crate::proofs::Sides::side_last, crate::proofs::Sides::side_stop, crate::proofs::Sides::side_full))]
+fn side(s: &[u8], dotted: bool, start: Groups) -> Option<Groups>
     requires { start.n ≤ 8 }
     ensures { result ≡ side_from start (side_of dotted s.now) }
 {
-    if s.len() == 0 {
-        return SideRead::Side(start);
+    if s.is_empty() {
+        return Some(start);
     }
     let mut t = s;
     let mut r = start;
     let mut e = part_end(t, b':');
+    // Stays a while: the last part is read otherwise, so no iterator over the parts fits.
     while e < t.len() {
-        let GroupRead::Group(g) = group(&t[..e]) else {
-            return SideRead::Nothing;
-        };
-        let n = r.n;
-        if 7 < n {
-            return SideRead::Nothing;
+        let g = group(&t[..e])?;
+        if 7 < r.n {
+            return None;
         }
         r = push(r, g);
         let k = e + 1;
@@ -193,57 +154,52 @@ fn side(s: &[u8], dotted: bool, start: Groups) -> SideRead
 }
 
 // Zero groups until there are m.
+#[tactic(auto, using(crate::proofs::Sides::fill_more, crate::proofs::Sides::fill_n, crate::proofs::Sides::fill_end))]
 fn fill(start: Groups, m: usize) -> Groups
     requires { m ≤ 8 }
     ensures { result ≡ push_all start (replicate (m - start.n) 0) }
 {
     let mut r = start;
-    let mut n = start.n;
-    while n < m {
+    for _n in start.n..m {
         r = push(r, 0);
-        n += 1;
     }
     r
 }
 
 #[tactic(auto, using(crate::proofs::Sides::whole_yes, crate::proofs::Sides::whole_no))]
-fn whole(r: Groups) -> Ipv6Read
+fn whole(r: Groups) -> Option<(u64, u64)>
     ensures { result ≡ whole_of r }
 {
     if r.n == 8 {
-        Ipv6Read::Address(r.upper, r.lower)
+        Some((r.upper, r.lower))
     } else {
-        Ipv6Read::Nothing
+        None
     }
 }
 
 // Left and right of "::", with the zero groups that it stands for. The right side is read once for its count.
-#[tactic(auto, using(crate::proofs::Sides::around_many))]
-fn around(left: &[u8], right: &[u8]) -> Ipv6Read
+#[tactic(auto, using(crate::proofs::Sides::around_left, crate::proofs::Sides::around_right, crate::proofs::Sides::count_fits, crate::proofs::Sides::around_many, crate::proofs::Sides::fill_le, crate::proofs::Sides::around_over, crate::proofs::Sides::around_whole))]
+fn around(left: &[u8], right: &[u8]) -> Option<(u64, u64)>
     ensures { result ≡ as_ipv6 (filled (side_of false left.now) (side_of true right.now)) }
 {
-    let none = Groups {
-        n: 0,
-        upper: 0,
-        lower: 0,
+    let Some(l) = side(left, false, NO_GROUPS) else {
+        return None;
     };
-    let SideRead::Side(l) = side(left, false, none) else {
-        return Ipv6Read::Nothing;
-    };
-    let SideRead::Side(r) = side(right, true, none) else {
-        return Ipv6Read::Nothing;
+    let Some(r) = side(right, true, NO_GROUPS) else {
+        return None;
     };
     let m = r.n;
     if 7 < l.n + m {
-        return Ipv6Read::Nothing;
+        return None;
     }
-    let SideRead::Side(x) = side(right, true, fill(l, 8 - m)) else {
-        return Ipv6Read::Nothing;
+    let Some(x) = side(right, true, fill(l, 8 - m)) else {
+        return None;
     };
     whole(x)
 }
 
-pub fn read_ipv6(s: &[u8]) -> Ipv6Read
+#[tactic(auto, using(crate::proofs::Ipv6::gap_room, crate::proofs::Sides::gap_text, crate::proofs::Sides::plain_none, crate::proofs::Sides::plain_whole))]
+pub fn read_ipv6(s: &[u8]) -> Option<(u64, u64)>
     ensures { result ≡ read_ipv6 s.now }
 {
     let k = gap(s);
@@ -251,13 +207,8 @@ pub fn read_ipv6(s: &[u8]) -> Ipv6Read
         let j = k + 2;
         return around(&s[..k], &s[j..]);
     }
-    let none = Groups {
-        n: 0,
-        upper: 0,
-        lower: 0,
-    };
-    let SideRead::Side(x) = side(s, true, none) else {
-        return Ipv6Read::Nothing;
+    let Some(x) = side(s, true, NO_GROUPS) else {
+        return None;
     };
     whole(x)
 }

@@ -1,108 +1,100 @@
 -- Laws of reading addresses and prefixes.
-use mathlib.Core.Path.{◌≡◌, refl, sym, ◌∙◌}
+use Rattle.std.specs.Prelude.{Option, Some, None, unwrap_or}
+use mathlib.Core.Path.{◌≡◌, refl, sym, ap, ◌∙◌}
 use mathlib.Core.List.{List, [], ◌∷◌}
 use mathlib.Core.Bool.{Bool, true, false, cond}
-use mathlib.Core.Option.{Option, some, none}
 use Prim.Native.Nat.{ℕ, zero, suc, ◌+◌, ◌-◌, ◌^◌, ◌≤◌, ◌<◌}
 use native.Mathlib.Omega.{arith}
 use lib.ListN.{length, get_or, take, drop, length-drop}
 use lib.Seq.{drop-cons, take_all, drop-length}
 use lib.Dec.{leb, ltb}
 use borrow.Author.Tests.{le-ltb, lt-ltb, lt-leb, le-leb, eq-eqb, ne_eqb, ltb-false}
-use Rattle.decimal.specs.Decimal.{digits, below, as64}
-use Rattle.decimal.specs.declared.U64Read.{U64Read}
-use Rattle.decimal.specs.declared.U64Read.TheVariants.{Number, Nothing as NoNumber}
-use Rattle.ipv4.specs.Ipv4.{ipv4, as_ipv4}
-use Rattle.ipv4.specs.declared.Ipv4Read.{Ipv4Read}
-use Rattle.ipv4.specs.declared.Ipv4Read.TheVariants.{Address as Address4, Nothing as Nothing4}
+use Rattle.decimal.specs.Decimal.{digits, below}
+use Rattle.ipv4.specs.Ipv4.{ipv4}
 use Rattle.ipv6.specs.Ipv6.{ipv6, as_ipv6, upper, lower}
-use Rattle.ipv6.specs.declared.Ipv6Read.{Ipv6Read}
-use Rattle.ipv6.specs.declared.Ipv6Read.TheVariants.{Address as Address6, Nothing as Nothing6}
-use Rattle.network.specs.Address.{either, address, as_address}
-use Rattle.network.specs.Prefix.{last_place, length_of, length_for, with_length, prefix_of, prefix, as_length, as_prefix, valid_prefix}
+use Rattle.network.specs.Address.{either, address}
+use Rattle.network.specs.Prefix.{last_place, length_of, length_for, with_length, prefix_of, prefix, valid_prefix}
 use Rattle.network.specs.declared.IpAddr.{IpAddr}
 use Rattle.network.specs.declared.IpAddr.TheVariants.{V4, V6}
-use Rattle.network.specs.declared.AddressRead.{AddressRead}
-use Rattle.network.specs.declared.AddressRead.TheVariants.{Address, Nothing as NoAddress}
-use Rattle.network.specs.declared.LengthRead.{LengthRead}
-use Rattle.network.specs.declared.LengthRead.TheVariants.{Length, Nothing as NoLength}
 use Rattle.network.specs.declared.NetworkPrefix.{NetworkPrefix}
-use Rattle.network.specs.declared.PrefixRead.TheVariants.{Prefix, Nothing}
 
 -- IPv4, else IPv6
-module _ (s : List ℕ) (x : Ipv4Read) (hx : x ≡ as_ipv4 (ipv4 s)) where
-  pub address_v4 : (n : ℕ) → x ≡ Address4 n → Address (V4 n) ≡ as_address (address s)
+module _ (s : List ℕ) (x : Option ℕ) (hx : x ≡ ipv4 s) where
+  pub address_v4 : (n : ℕ) → x ≡ Some n → Some (V4 n) ≡ address s
   unfolding address
   address_v4 n e = go (ipv4 s) (sym e ∙ hx)
     where
-      go : (m : Option ℕ) → Address4 n ≡ as_ipv4 m → Address (V4 n) ≡ as_address (either m (ipv6 s))
-      go (some k) f = let z : n ≡ k = cc in rw z
-      go none f = let z : ◌≡◌ {A = ℕ} 0 1 = cc in absurd (omega arith)
+      go : (m : Option ℕ) → Some n ≡ m → Some (V4 n) ≡ either m (ipv6 s)
+      go (Some k) f = let z : n ≡ k = cc in rw z
+      go None f = let z : ◌≡◌ {A = ℕ} 0 1 = cc in absurd (omega arith)
 
-  module _ (e : x ≡ Nothing4) (y : Ipv6Read) (hy : y ≡ as_ipv6 (ipv6 s)) where
-    second : address s ≡ either none (ipv6 s)
+  module _ (e : x ≡ None) (y : Option (ℕ × ℕ)) (hy : y ≡ as_ipv6 (ipv6 s)) where
+    second : address s ≡ either None (ipv6 s)
     unfolding address
     second = go (ipv4 s) (sym e ∙ hx)
       where
-        go : (m : Option ℕ) → Nothing4 ≡ as_ipv4 m → either m (ipv6 s) ≡ either none (ipv6 s)
-        go (some k) f = let z : ◌≡◌ {A = ℕ} 0 1 = cc in absurd (omega arith)
-        go none f = refl
+        go : (m : Option ℕ) → None ≡ m → either m (ipv6 s) ≡ either None (ipv6 s)
+        go (Some k) f = let z : ◌≡◌ {A = ℕ} 0 1 = cc in absurd (omega arith)
+        go None f = refl
 
-    pub address_none : y ≡ Nothing6 → NoAddress ≡ as_address (address s)
+    pub address_none : y ≡ None → None ≡ address s
     address_none f = rw second (go (ipv6 s) (sym f ∙ hy))
       where
-        go : (m : Option (List ℕ)) → Nothing6 ≡ as_ipv6 m → NoAddress ≡ as_address (either none m)
-        go (some gs) f = let z : ◌≡◌ {A = ℕ} 0 1 = cc in absurd (omega arith)
-        go none f = refl
+        go : (m : Option (List ℕ)) → None ≡ as_ipv6 m → None ≡ either None m
+        go (Some gs) f = let z : ◌≡◌ {A = ℕ} 0 1 = cc in absurd (omega arith)
+        go None f = refl
 
-    pub address_v6 : (u l : ℕ) → y ≡ Address6 u l → Address (V6 u l) ≡ as_address (address s)
+    pub address_v6 : (u l : ℕ) → y ≡ Some (u, l) → Some (V6 u l) ≡ address s
     address_v6 u l f = rw second (go (ipv6 s) (sym f ∙ hy))
       where
-        go : (m : Option (List ℕ)) → Address6 u l ≡ as_ipv6 m → Address (V6 u l) ≡ as_address (either none m)
-        go (some gs) f = let z : u ≡ upper gs = cc in let w : l ≡ lower gs = cc in rw (z, w)
-        go none f = let z : ◌≡◌ {A = ℕ} 0 1 = cc in absurd (omega arith)
+        go : (m : Option (List ℕ)) → Some (u, l) ≡ as_ipv6 m → Some (V6 u l) ≡ either None m
+        go (Some gs) f =
+            let z : u ≡ upper gs = ap (λ (a : Option (ℕ × ℕ)). (unwrap_or a (0, 0)).0) f in
+            let w : l ≡ lower gs = ap (λ (a : Option (ℕ × ℕ)). (unwrap_or a (0, 0)).1) f in
+            rw (z, w)
+        go None f = let z : ◌≡◌ {A = ℕ} 0 1 = cc in absurd (omega arith)
 
 -- the length
-pub length_long : (w m : ℕ) (t : List ℕ) → w < length t → NoLength ≡ as_length (length_of w m t)
+pub length_long : (w m : ℕ) (t : List ℕ) → w < length t → None ≡ length_of w m t
 unfolding length_of
 length_long w m t h = simp (lt-leb (length t) w h)
 
-module _ (w m : ℕ) (t : List ℕ) (h : length t ≤ w) (x : U64Read) (hx : x ≡ as64 (below (2 ^ 64) (digits t))) where
-  pub length_none : x ≡ NoNumber → m ≤ 255 → NoLength ≡ as_length (length_of w m t)
+module _ (w m : ℕ) (t : List ℕ) (h : length t ≤ w) (x : Option ℕ) (hx : x ≡ below (2 ^ 64) (digits t)) where
+  pub length_none : x ≡ None → m ≤ 255 → None ≡ length_of w m t
   unfolding length_of
   length_none e l = simp (le-leb (length t) w h) (go (digits t) (sym e ∙ hx))
     where
-      size : (n : ℕ) (u : Bool) → ltb n (2 ^ 64) ≡ u → NoNumber ≡ as64 (cond u (some n) none) → NoLength ≡ as_length (below (m + 1) (some n))
+      size : (n : ℕ) (u : Bool) → ltb n (2 ^ 64) ≡ u → None ≡ cond u (Some n) None → None ≡ below (m + 1) (Some n)
       size n true p f = let z : ◌≡◌ {A = ℕ} 0 1 = cc in absurd (omega arith)
       size n false p f = simp (le-ltb n (m + 1) (omega (arith, ltb-false n (2 ^ 64) p)))
 
-      go : (d : Option ℕ) → NoNumber ≡ as64 (below (2 ^ 64) d) → NoLength ≡ as_length (below (m + 1) d)
-      go (some n) f = size n (ltb n (2 ^ 64)) refl f
-      go none f = refl
+      go : (d : Option ℕ) → None ≡ below (2 ^ 64) d → None ≡ below (m + 1) d
+      go (Some n) f = size n (ltb n (2 ^ 64)) refl f
+      go None f = refl
 
-  module _ (n : ℕ) (e : x ≡ Number n) where
-    value : length_of w m t ≡ below (m + 1) (some n)
+  module _ (n : ℕ) (e : x ≡ Some n) where
+    value : length_of w m t ≡ below (m + 1) (Some n)
     unfolding length_of
     value = simp (le-leb (length t) w h) (go (digits t) (sym e ∙ hx))
       where
-        size : (k : ℕ) (u : Bool) → Number n ≡ as64 (cond u (some k) none) → below (m + 1) (some k) ≡ below (m + 1) (some n)
+        size : (k : ℕ) (u : Bool) → Some n ≡ cond u (Some k) None → below (m + 1) (Some k) ≡ below (m + 1) (Some n)
         size k true f = let z : k ≡ n = cc in rw z
         size k false f = let z : ◌≡◌ {A = ℕ} 0 1 = cc in absurd (omega arith)
 
-        go : (d : Option ℕ) → Number n ≡ as64 (below (2 ^ 64) d) → below (m + 1) d ≡ below (m + 1) (some n)
-        go (some k) f = size k (ltb k (2 ^ 64)) f
-        go none f = let z : ◌≡◌ {A = ℕ} 0 1 = cc in absurd (omega arith)
+        go : (d : Option ℕ) → Some n ≡ below (2 ^ 64) d → below (m + 1) d ≡ below (m + 1) (Some n)
+        go (Some k) f = size k (ltb k (2 ^ 64)) f
+        go None f = let z : ◌≡◌ {A = ℕ} 0 1 = cc in absurd (omega arith)
 
-    pub length_over : m < n → NoLength ≡ as_length (length_of w m t)
+    pub length_over : m < n → None ≡ length_of w m t
     length_over l = rw value (simp (le-ltb n (m + 1) (omega arith)))
 
-    pub length_some : n ≤ m → Length n ≡ as_length (length_of w m t)
+    pub length_some : n ≤ m → Some n ≡ length_of w m t
     length_some l = rw value (simp (lt-ltb n (m + 1) (omega arith)))
 
-pub length_v4 : (a : IpAddr) (n : ℕ) (t : List ℕ) (r : LengthRead) → a ≡ V4 n → r ≡ as_length (length_of 2 32 t) → r ≡ as_length (length_for a t)
+pub length_v4 : (a : IpAddr) (n : ℕ) (t : List ℕ) (r : Option ℕ) → a ≡ V4 n → r ≡ length_of 2 32 t → r ≡ length_for a t
 length_v4 a n t r e f = f ∙ rw e
 
-pub length_v6 : (a : IpAddr) (u l : ℕ) (t : List ℕ) (r : LengthRead) → a ≡ V6 u l → r ≡ as_length (length_of 3 128 t) → r ≡ as_length (length_for a t)
+pub length_v6 : (a : IpAddr) (u l : ℕ) (t : List ℕ) (r : Option ℕ) → a ≡ V6 u l → r ≡ length_of 3 128 t → r ≡ length_for a t
 length_v6 a u l t r e f = f ∙ rw e
 
 pub valid_v4 : (p : NetworkPrefix) (n : ℕ) → p.addr ≡ V4 n → leb p.len 32 ≡ valid_prefix p
@@ -142,40 +134,40 @@ last_start c s = rw (drop-length s)
 
 -- the prefix around it
 module _ (s : List ℕ) (k : ℕ) (hk : k ≡ last_place 47 s) where
-  pub prefix_bare : length s ≤ k → Nothing ≡ as_prefix (prefix s)
+  pub prefix_bare : length s ≤ k → None ≡ prefix s
   unfolding prefix
   prefix_bare h = simp (le-ltb (last_place 47 s) (length s) (omega arith))
 
-  module _ (h : k < length s) (x : AddressRead) (hx : x ≡ as_address (address (take k s))) where
+  module _ (h : k < length s) (x : Option IpAddr) (hx : x ≡ address (take k s)) where
     split : prefix s ≡ prefix_of (address (take k s)) (drop (k + 1) s)
     unfolding prefix
     split = rw hk (simp (lt-ltb (last_place 47 s) (length s) (omega arith)))
 
-    pub prefix_no_address : x ≡ NoAddress → Nothing ≡ as_prefix (prefix s)
+    pub prefix_no_address : x ≡ None → None ≡ prefix s
     prefix_no_address e = rw split (go (address (take k s)) (sym e ∙ hx))
       where
-        go : (m : Option IpAddr) → NoAddress ≡ as_address m → Nothing ≡ as_prefix (prefix_of m (drop (k + 1) s))
-        go (some a) f = let z : ◌≡◌ {A = ℕ} 0 1 = cc in absurd (omega arith)
-        go none f = refl
+        go : (m : Option IpAddr) → None ≡ m → None ≡ prefix_of m (drop (k + 1) s)
+        go (Some a) f = let z : ◌≡◌ {A = ℕ} 0 1 = cc in absurd (omega arith)
+        go None f = refl
 
-    module _ (a : IpAddr) (ha : x ≡ Address a) (y : LengthRead) (hy : y ≡ as_length (length_for a (take (length s - (k + 1)) (drop (k + 1) s)))) where
+    module _ (a : IpAddr) (ha : x ≡ Some a) (y : Option ℕ) (hy : y ≡ length_for a (take (length s - (k + 1)) (drop (k + 1) s))) where
       joined : prefix s ≡ with_length a (length_for a (take (length s - (k + 1)) (drop (k + 1) s)))
       joined = split ∙ rw (take_all (length s - (k + 1)) (drop (k + 1) s) (simp length-drop (omega arith))) (go (address (take k s)) (sym ha ∙ hx))
         where
-          go : (m : Option IpAddr) → Address a ≡ as_address m → prefix_of m (drop (k + 1) s) ≡ with_length a (length_for a (drop (k + 1) s))
-          go (some b) f = let z : b ≡ a = cc in rw z
-          go none f = let z : ◌≡◌ {A = ℕ} 0 1 = cc in absurd (omega arith)
+          go : (m : Option IpAddr) → Some a ≡ m → prefix_of m (drop (k + 1) s) ≡ with_length a (length_for a (drop (k + 1) s))
+          go (Some b) f = let z : b ≡ a = cc in rw z
+          go None f = let z : ◌≡◌ {A = ℕ} 0 1 = cc in absurd (omega arith)
 
-      pub prefix_no_length : y ≡ NoLength → Nothing ≡ as_prefix (prefix s)
+      pub prefix_no_length : y ≡ None → None ≡ prefix s
       prefix_no_length e = rw joined (go (length_for a (take (length s - (k + 1)) (drop (k + 1) s))) (sym e ∙ hy))
         where
-          go : (m : Option ℕ) → NoLength ≡ as_length m → Nothing ≡ as_prefix (with_length a m)
-          go (some n) f = let z : ◌≡◌ {A = ℕ} 0 1 = cc in absurd (omega arith)
-          go none f = refl
+          go : (m : Option ℕ) → None ≡ m → None ≡ with_length a m
+          go (Some n) f = let z : ◌≡◌ {A = ℕ} 0 1 = cc in absurd (omega arith)
+          go None f = refl
 
-      pub prefix_some : (n : ℕ) → y ≡ Length n → Prefix (record { addr = a; len = n }) ≡ as_prefix (prefix s)
+      pub prefix_some : (n : ℕ) → y ≡ Some n → Some (record { addr = a; len = n }) ≡ prefix s
       prefix_some n e = rw joined (go (length_for a (take (length s - (k + 1)) (drop (k + 1) s))) (sym e ∙ hy))
         where
-          go : (m : Option ℕ) → Length n ≡ as_length m → Prefix (record { addr = a; len = n }) ≡ as_prefix (with_length a m)
-          go (some i) f = let z : n ≡ i = cc in rw z
-          go none f = let z : ◌≡◌ {A = ℕ} 0 1 = cc in absurd (omega arith)
+          go : (m : Option ℕ) → Some n ≡ m → Some (record { addr = a; len = n }) ≡ with_length a m
+          go (Some i) f = let z : n ≡ i = cc in rw z
+          go None f = let z : ◌≡◌ {A = ℕ} 0 1 = cc in absurd (omega arith)

@@ -3,11 +3,7 @@
 
 ghost use Rattle.std.specs.Prelude.{◌≡◌, ◌≤◌};
 ghost use Rattle.network.specs.Address.{read_address};
-ghost use Rattle.network.specs.Prefix.{last_place, length_of, length_for, as_length, read_prefix, valid_prefix};
-
-use decimal::U64Read;
-use ipv4::Ipv4Read;
-use ipv6::Ipv6Read;
+ghost use Rattle.network.specs.Prefix.{last_place, length_of, length_for, read_prefix, valid_prefix};
 
 #[derive(Clone, Copy)]
 pub struct Asn(pub u32);
@@ -26,63 +22,43 @@ pub struct NetworkPrefix {
 }
 
 // A length that the address can have.
+#[tactic(auto, using(crate::proofs::Reading::valid_v4, crate::proofs::Reading::valid_v6))]
 pub fn is_valid_prefix(p: NetworkPrefix) -> bool
     ensures { result ≡ valid_prefix p }
 {
-    let addr = p.addr;
-    let len = p.len;
-    match addr {
-        IpAddr::V4(_) => len <= 32,
-        IpAddr::V6(_, _) => len <= 128,
+    match p.addr {
+        IpAddr::V4(_) => p.len <= 32,
+        IpAddr::V6(_, _) => p.len <= 128,
     }
 }
 
-#[derive(Clone, Copy)]
-pub enum AddressRead {
-    Address(IpAddr),
-    Nothing,
-}
-
-pub fn read_address(s: &[u8]) -> AddressRead
+#[tactic(auto, using(crate::proofs::Reading::address_v4, crate::proofs::Reading::address_none, crate::proofs::Reading::address_v6))]
+pub fn read_address(s: &[u8]) -> Option<IpAddr>
     ensures { result ≡ read_address s.now }
 {
-    let first = ipv4::read_ipv4(s);
-    match first {
-        Ipv4Read::Address(n) => AddressRead::Address(IpAddr::V4(n)),
-        Ipv4Read::Nothing => {
-            let Ipv6Read::Address(upper, lower) = ipv6::read_ipv6(s) else {
-                return AddressRead::Nothing;
-            };
-            AddressRead::Address(IpAddr::V6(upper, lower))
-        }
+    if let Some(n) = ipv4::read_ipv4(s) {
+        return Some(IpAddr::V4(n));
     }
-}
-
-#[derive(Clone, Copy)]
-enum LengthRead {
-    Length(u8),
-    Nothing,
+    let (upper, lower) = ipv6::read_ipv6(s)?;
+    Some(IpAddr::V6(upper, lower))
 }
 
 // At most `width` digits, at least one, and at most the number `most`.
-fn read_length(t: &[u8], width: usize, most: u64) -> LengthRead
+#[tactic(auto, using(crate::proofs::Reading::length_long, crate::proofs::Reading::length_none, crate::proofs::Reading::length_over, crate::proofs::Reading::length_some))]
+fn read_length(t: &[u8], width: usize, most: u64) -> Option<u8>
     requires { most ≤ 255 }
-    ensures { result ≡ as_length (length_of width most t.now) }
+    ensures { result ≡ length_of width most t.now }
 {
     if width < t.len() {
-        return LengthRead::Nothing;
+        return None;
     }
-    let U64Read::Number(n) = decimal::read_digits(t) else {
-        return LengthRead::Nothing;
-    };
-    if most < n {
-        return LengthRead::Nothing;
-    }
-    LengthRead::Length(n as u8)
+    let n = decimal::read_digits(t)?;
+    if n <= most { Some(n as u8) } else { None }
 }
 
-fn length_for(addr: IpAddr, t: &[u8]) -> LengthRead
-    ensures { result ≡ as_length (length_for addr t.now) }
+#[tactic(auto, using(crate::proofs::Reading::length_v4, crate::proofs::Reading::length_v6))]
+fn length_for(addr: IpAddr, t: &[u8]) -> Option<u8>
+    ensures { result ≡ length_for addr t.now }
 {
     match addr {
         IpAddr::V4(_) => read_length(t, 2, 32),
@@ -91,39 +67,27 @@ fn length_for(addr: IpAddr, t: &[u8]) -> LengthRead
 }
 
 // The place of the last '/': in a prefix it is one of the last four bytes.
+#[tactic(auto, using(crate::proofs::Reading::last_here, crate::proofs::Reading::last_before, crate::proofs::Reading::last_none, crate::proofs::Reading::last_start))]
 fn last_slash(s: &[u8]) -> usize
     ensures { result ≡ last_place 47 s.now }
 {
-    let mut i = s.len();
-    while 0 < i {
-        let j = i - 1;
-        if s[j] == b'/' {
-            return j;
+    for i in (0..s.len()).rev() {
+        if s[i] == b'/' {
+            return i;
         }
-        i = j;
     }
     s.len()
 }
 
-#[derive(Clone, Copy)]
-pub enum PrefixRead {
-    Prefix(NetworkPrefix),
-    Nothing,
-}
-
-pub fn read_prefix(s: &[u8]) -> PrefixRead
+#[tactic(auto, using(ipv4::proofs::Parts::take_count, crate::proofs::Reading::prefix_bare, crate::proofs::Reading::prefix_no_address, crate::proofs::Reading::prefix_no_length, crate::proofs::Reading::prefix_some))]
+pub fn read_prefix(s: &[u8]) -> Option<NetworkPrefix>
     ensures { result ≡ read_prefix s.now }
 {
     let k = last_slash(s);
     if s.len() <= k {
-        return PrefixRead::Nothing;
+        return None;
     }
-    let AddressRead::Address(addr) = read_address(&s[..k]) else {
-        return PrefixRead::Nothing;
-    };
-    let j = k + 1;
-    let LengthRead::Length(len) = length_for(addr, &s[j..]) else {
-        return PrefixRead::Nothing;
-    };
-    PrefixRead::Prefix(NetworkPrefix { addr, len })
+    let addr = read_address(&s[..k])?;
+    let len = length_for(addr, &s[k + 1..])?;
+    Some(NetworkPrefix { addr, len })
 }

@@ -1,8 +1,8 @@
 -- What is printed reads as the same address, and as the same prefix.
+use Rattle.std.specs.Prelude.{Option, Some, None}
 use mathlib.Core.Path.{◌≡◌, refl, sym, ap, subst, ◌∙◌}
 use mathlib.Core.List.{List, [], ◌∷◌, ◌++◌, append_assoc, append-nil}
 use mathlib.Core.Bool.{Bool, true, false, cond, not, ◌&&◌, and-false}
-use mathlib.Core.Option.{Option, some, none}
 use Prim.Native.Nat.{ℕ, zero, suc, ◌+◌, ◌-◌, ◌*◌, ◌/◌, ◌%◌, ◌^◌, ◌≤◌, ◌<◌}
 use native.Mathlib.Nat.{zero-add, add-zero, le_refl}
 use native.Mathlib.Omega.{arith}
@@ -20,13 +20,11 @@ use Rattle.ipv4.specs.Ipv4.{leading_zero, octet, four, ipv4}
 use Rattle.ipv4.proofs.Parts.{later, parts_cons}
 use Rattle.ipv6.specs.Ipv6.{hex_digit, value_from, group, groups, side, gap, filled, ipv6}
 use Rattle.ipv6.proofs.Sides.{Below, below_append, groups_more}
-use Rattle.network.specs.Address.{either, address, as_address, read_address}
-use Rattle.network.specs.Prefix.{last_place, length_of, length_for, prefix, bits, as_prefix, read_prefix, valid_prefix}
+use Rattle.network.specs.Address.{either, address, read_address}
+use Rattle.network.specs.Prefix.{last_place, length_of, length_for, prefix, bits, read_prefix, valid_prefix}
 use Rattle.network.specs.declared.IpAddr.{IpAddr}
 use Rattle.network.specs.declared.IpAddr.TheVariants.{V4, V6}
-use Rattle.network.specs.declared.AddressRead.TheVariants.{Address}
 use Rattle.network.specs.declared.NetworkPrefix.{NetworkPrefix}
-use Rattle.network.specs.declared.PrefixRead.TheVariants.{Prefix}
 use Rattle.ip_display.specs.Groups.{quarters, groups_of, zeros, longest, first_run}
 use Rattle.ip_display.specs.Text.{dotted, hex_byte, hex, behind_colons, joined, shortened, plain, mapped, ipv6_text}
 use Rattle.network_display.specs.Text.{address_text, prefix_text}
@@ -68,12 +66,12 @@ last_append c (b ∷ p) s f =
     simp (z, lt-ltb (length p) (length (p ++ (c ∷ s))) (simp length-append (omega arith)))
 
 -- digits have no other byte
-behind_free : (c v n : ℕ) (s : List ℕ) → is_digit c ≡ false → behind v s ≡ some n → Free c s
+behind_free : (c v n : ℕ) (s : List ℕ) → is_digit c ≡ false → behind v s ≡ Some n → Free c s
 unfolding behind
 behind_free c v n [] h e = tt
 behind_free c v n (b ∷ s) h e = go (is_digit b) refl e (behind_free c (v * 10 + (b - 48)) n s h)
   where
-    go : (t : Bool) → is_digit b ≡ t → cond t (behind (v * 10 + (b - 48)) s) none ≡ some n → (behind (v * 10 + (b - 48)) s ≡ some n → Free c s) → Free c (b ∷ s)
+    go : (t : Bool) → is_digit b ≡ t → cond t (behind (v * 10 + (b - 48)) s) None ≡ Some n → (behind (v * 10 + (b - 48)) s ≡ Some n → Free c s) → Free c (b ∷ s)
     go true d f ih = (λ q. bool_clash (sym d ∙ ap is_digit q ∙ h), ih f)
       where
         bool_clash : true ≡ false → ⊥
@@ -84,12 +82,12 @@ pub decimal_free : (c n : ℕ) → is_digit c ≡ false → Free c (decimal n)
 unfolding digits
 decimal_free c n h = go (decimal n) (digits_decimal n)
   where
-    go : (s : List ℕ) → digits s ≡ some n → Free c s
+    go : (s : List ℕ) → digits s ≡ Some n → Free c s
     go [] e = tt
     go (b ∷ s) e = behind_free c 0 n (b ∷ s) h e
 
 -- an octet
-pub octet_decimal : (o : ℕ) → o < 256 → octet (decimal o) ≡ some o
+pub octet_decimal : (o : ℕ) → o < 256 → octet (decimal o) ≡ Some o
 unfolding octet
 octet_decimal o h = simp (le-leb (length (decimal o)) 3 (digits_most 2 o (omega arith)), no_zero (ltb 0 o) refl, digits_decimal o, lt-ltb o 256 h)
   where
@@ -121,11 +119,11 @@ four_digits n h =
     let d : n / 65536 ≡ n / 16777216 * 256 + n / 65536 % 256 = omega arith in
     let e : n / 256 ≡ n / 65536 * 256 + n / 256 % 256 = omega arith in omega arith
 
-pub ipv4_dotted : (n : ℕ) → n < 2 ^ 32 → ipv4 (dotted n) ≡ some n
+pub ipv4_dotted : (n : ℕ) → n < 2 ^ 32 → ipv4 (dotted n) ≡ Some n
 unfolding ipv4 each number
 ipv4_dotted n h =
     rw (dotted_is n)
-    (simp (between (n / 16777216 % 256), between (n / 65536 % 256), between (n / 256 % 256), parts_free 46 (decimal (n % 256)) (decimal_free 46 (n % 256) refl), octet_decimal (n / 16777216 % 256) (omega arith), octet_decimal (n / 65536 % 256) (omega arith), octet_decimal (n / 256 % 256) (omega arith), octet_decimal (n % 256) (omega arith)) (ap some z))
+    (simp (between (n / 16777216 % 256), between (n / 65536 % 256), between (n / 256 % 256), parts_free 46 (decimal (n % 256)) (decimal_free 46 (n % 256) refl), octet_decimal (n / 16777216 % 256) (omega arith), octet_decimal (n / 65536 % 256) (omega arith), octet_decimal (n / 256 % 256) (omega arith), octet_decimal (n % 256) (omega arith)) (ap Some z))
   where
     between : (o : ℕ) (s : List ℕ) → parts 46 (decimal o ++ (46 ∷ s)) ≡ decimal o ∷ parts 46 s
     between o s = parts_append 46 (decimal o) s (decimal_free 46 o refl)
@@ -134,14 +132,14 @@ ipv4_dotted n h =
     z = four_digits n h
 
 -- hexadecimal digits
-pub digit_back : (d : ℕ) → d < 16 → hex_digit (hex_byte d) ≡ some d
+pub digit_back : (d : ℕ) → d < 16 → hex_digit (hex_byte d) ≡ Some d
 unfolding hex_digit
 digit_back d h = go (ltb d 10) refl
   where
     go : (t : Bool) → ltb d 10 ≡ t
-        → cond (leb 48 (cond t (48 + d) (87 + d)) && leb (cond t (48 + d) (87 + d)) 57) (some (cond t (48 + d) (87 + d) - 48))
-        (cond (leb 65 (cond t (48 + d) (87 + d)) && leb (cond t (48 + d) (87 + d)) 70) (some (cond t (48 + d) (87 + d) - 55))
-        (cond (leb 97 (cond t (48 + d) (87 + d)) && leb (cond t (48 + d) (87 + d)) 102) (some (cond t (48 + d) (87 + d) - 87)) none)) ≡ some d
+        → cond (leb 48 (cond t (48 + d) (87 + d)) && leb (cond t (48 + d) (87 + d)) 57) (Some (cond t (48 + d) (87 + d) - 48))
+        (cond (leb 65 (cond t (48 + d) (87 + d)) && leb (cond t (48 + d) (87 + d)) 70) (Some (cond t (48 + d) (87 + d) - 55))
+        (cond (leb 97 (cond t (48 + d) (87 + d)) && leb (cond t (48 + d) (87 + d)) 102) (Some (cond t (48 + d) (87 + d) - 87)) None)) ≡ Some d
     go true e =
         let l : d < 10 = ltb-true d 10 e in
         let z : 48 + d - 48 ≡ d = omega arith in simp (le-leb 48 (48 + d) (omega arith), le-leb (48 + d) 57 (omega arith), z)
@@ -151,11 +149,11 @@ digit_back d h = go (ltb d 10) refl
         simp (le-leb 48 (87 + d) (omega arith), lt-leb (87 + d) 57 (omega arith), le-leb 65 (87 + d) (omega arith), lt-leb (87 + d) 70 (omega arith), le-leb 97 (87 + d) (omega arith), le-leb (87 + d) 102 (omega arith), z)
 
 -- a group
-pub group_hex : (g : ℕ) → g < 65536 → group (hex g) ≡ some g
+pub group_hex : (g : ℕ) → g < 65536 → group (hex g) ≡ Some g
 unfolding group each number
 group_hex g h = by_size (ltb g 16) refl (ltb g 256) refl (ltb g 4096) refl
   where
-    by_size : (t : Bool) → ltb g 16 ≡ t → (u : Bool) → ltb g 256 ≡ u → (v : Bool) → ltb g 4096 ≡ v → group (hex g) ≡ some g
+    by_size : (t : Bool) → ltb g 16 ≡ t → (u : Bool) → ltb g 256 ≡ u → (v : Bool) → ltb g 4096 ≡ v → group (hex g) ≡ Some g
     by_size true e u f v k =
         let z : 0 * 16 + g ≡ g = omega arith in rw (hex_1 g (ltb-true g 16 e)) (simp (digit_back g (ltb-true g 16 e), z))
     by_size false e true f v k =
@@ -172,44 +170,44 @@ group_hex g h = by_size (ltb g 16) refl (ltb g 256) refl (ltb g 4096) refl
         (simp (digit_back (g / 4096) (omega arith), digit_back (g / 256 % 16) (omega arith), digit_back (g / 16 % 16) (omega arith), digit_back (g % 16) (omega arith), z))
 
 -- what f reads has no byte that f does not read
-each_free : (f : ℕ → Option ℕ) (c : ℕ) → f c ≡ none → (s ds : List ℕ) → each f s ≡ some ds → Free c s
+each_free : (f : ℕ → Option ℕ) (c : ℕ) → f c ≡ None → (s ds : List ℕ) → each f s ≡ Some ds → Free c s
 unfolding each
 each_free f c h [] ds e = tt
 each_free f c h (b ∷ s) ds e = go (f b) refl (each f s) (each_free f c h s) e
   where
-    go : (m : Option ℕ) → f b ≡ m → (n : Option (List ℕ)) → ((ds : List ℕ) → n ≡ some ds → Free c s) → prepend m n ≡ some ds → Free c (b ∷ s)
-    go (some d) p (some l) ih q = (λ w. clash (sym p ∙ ap f w ∙ h), ih l refl)
+    go : (m : Option ℕ) → f b ≡ m → (n : Option (List ℕ)) → ((ds : List ℕ) → n ≡ Some ds → Free c s) → prepend m n ≡ Some ds → Free c (b ∷ s)
+    go (Some d) p (Some l) ih q = (λ w. clash (sym p ∙ ap f w ∙ h), ih l refl)
       where
-        clash : some d ≡ none → ⊥
+        clash : Some d ≡ None → ⊥
         clash w = let z : ◌≡◌ {A = ℕ} 0 1 = cc in omega arith
-    go (some d) p none ih q = let z : ◌≡◌ {A = ℕ} 0 1 = cc in absurd (omega arith)
-    go none p n ih q = let z : ◌≡◌ {A = ℕ} 0 1 = cc in absurd (omega arith)
+    go (Some d) p None ih q = let z : ◌≡◌ {A = ℕ} 0 1 = cc in absurd (omega arith)
+    go None p n ih q = let z : ◌≡◌ {A = ℕ} 0 1 = cc in absurd (omega arith)
 
 -- a group's text has digits, and only these
-group_text : (p : List ℕ) (g : ℕ) → group p ≡ some g → (1 ≤ length p) × ((c : ℕ) → hex_digit c ≡ none → Free c p)
+group_text : (p : List ℕ) (g : ℕ) → group p ≡ Some g → (1 ≤ length p) × ((c : ℕ) → hex_digit c ≡ None → Free c p)
 unfolding group
 group_text p g = go (leb 1 (length p)) refl (leb (length p) 4) (each hex_digit p) refl
   where
-    go : (t : Bool) → leb 1 (length p) ≡ t → (u : Bool) (m : Option (List ℕ)) → each hex_digit p ≡ m → cond (t && u) (value_from 16 0 m) none ≡ some g
-        → (1 ≤ length p) × ((c : ℕ) → hex_digit c ≡ none → Free c p)
-    go true e true (some ds) f h = (leb-true 1 (length p) e, λ c z. each_free hex_digit c z p ds f)
-    go true e true none f h = let z : ◌≡◌ {A = ℕ} 0 1 = cc in absurd (omega arith)
+    go : (t : Bool) → leb 1 (length p) ≡ t → (u : Bool) (m : Option (List ℕ)) → each hex_digit p ≡ m → cond (t && u) (value_from 16 0 m) None ≡ Some g
+        → (1 ≤ length p) × ((c : ℕ) → hex_digit c ≡ None → Free c p)
+    go true e true (Some ds) f h = (leb-true 1 (length p) e, λ c z. each_free hex_digit c z p ds f)
+    go true e true None f h = let z : ◌≡◌ {A = ℕ} 0 1 = cc in absurd (omega arith)
     go true e false m f h = let z : ◌≡◌ {A = ℕ} 0 1 = cc in absurd (omega arith)
     go false e u m f h = let z : ◌≡◌ {A = ℕ} 0 1 = cc in absurd (omega arith)
 
 -- ':' and '.' are no digits
-colon : hex_digit 58 ≡ none
+colon : hex_digit 58 ≡ None
 unfolding hex_digit
 colon = refl
 
-dot : hex_digit 46 ≡ none
+dot : hex_digit 46 ≡ None
 unfolding hex_digit
 dot = refl
 
 hex_some : (g : ℕ) → g < 65536 → 1 ≤ length (hex g)
 hex_some g h = (group_text (hex g) g (group_hex g h)).0
 
-hex_free : (c g : ℕ) → hex_digit c ≡ none → g < 65536 → Free c (hex g)
+hex_free : (c g : ℕ) → hex_digit c ≡ None → g < 65536 → Free c (hex g)
 hex_free c g e h = (group_text (hex g) g (group_hex g h)).1 c e
 
 -- groups with colons between them
@@ -221,7 +219,7 @@ joined_one : (g : ℕ) → joined (g ∷ []) ≡ hex g
 unfolding joined behind_colons
 joined_one g = append-nil (hex g)
 
-pub groups_joined : (dotted : Bool) (g : ℕ) (gs : List ℕ) → Below (g ∷ gs) → groups dotted (parts 58 (joined (g ∷ gs))) ≡ some (g ∷ gs)
+pub groups_joined : (dotted : Bool) (g : ℕ) (gs : List ℕ) → Below (g ∷ gs) → groups dotted (parts 58 (joined (g ∷ gs))) ≡ Some (g ∷ gs)
 unfolding groups
 groups_joined dotted g [] b = rw (joined_one g, parts_free 58 (hex g) (hex_free 58 g colon b.0), group_hex g b.0)
 groups_joined dotted g (h ∷ gs) b =
@@ -238,7 +236,7 @@ joined_some : (g : ℕ) (gs : List ℕ) → g < 65536 → 1 ≤ length (joined (
 unfolding joined
 joined_some g gs h = simp length-append (omega (arith, hex_some g h))
 
-pub side_joined : (dotted : Bool) (gs : List ℕ) → Below gs → side dotted (joined gs) ≡ some gs
+pub side_joined : (dotted : Bool) (gs : List ℕ) → Below gs → side dotted (joined gs) ≡ Some gs
 unfolding side joined
 side_joined dotted [] b = refl
 side_joined dotted (g ∷ gs) b = side_some dotted (joined (g ∷ gs)) (joined_some g gs b.0) ∙ groups_joined dotted g gs b
@@ -272,7 +270,7 @@ gap_joined (g ∷ h ∷ gs) s b =
     rw (joined_cons g h gs, append_assoc) (gap_free (hex g) (58 ∷ (joined (h ∷ gs) ++ s)) (hex_free 58 g colon b.0) ∙ omega (arith, e, f, l))
 
 -- eight groups with no "::"
-pub ipv6_joined : (gs : List ℕ) → length gs ≡ 8 → Below gs → ipv6 (joined gs) ≡ some gs
+pub ipv6_joined : (gs : List ℕ) → length gs ≡ 8 → Below gs → ipv6 (joined gs) ≡ Some gs
 unfolding ipv6 gap
 ipv6_joined gs e b =
     let z : gap (joined gs) ≡ length (joined gs) + 0 = rw append-nil at (gap_joined gs [] b) in
@@ -280,7 +278,7 @@ ipv6_joined gs e b =
 
 -- two sides with "::" between them
 pub ipv6_sides : (a b : List ℕ) → Below a → Below b → length a + length b ≤ 7
-    → ipv6 (joined a ++ (58 ∷ 58 ∷ []) ++ joined b) ≡ some (a ++ (replicate (8 - length b - length a) 0 ++ b))
+    → ipv6 (joined a ++ (58 ∷ 58 ∷ []) ++ joined b) ≡ Some (a ++ (replicate (8 - length b - length a) 0 ++ b))
 unfolding ipv6 gap
 ipv6_sides a b p q h =
     rw place
@@ -332,42 +330,42 @@ around_run gs k n h =
     ∙ ap (λ (l : List ℕ). take k gs ++ l) (sym (take-append-drop n (drop k gs)) ∙ rw (zeros_take n (drop k gs) h, drop-drop n k gs))
 
 ipv6_run : (gs : List ℕ) (k n : ℕ) → length gs ≡ 8 → Below gs → 1 ≤ n → k + n ≤ 8 → n ≤ zeros (drop k gs)
-    → ipv6 (joined (take k gs) ++ (58 ∷ 58 ∷ []) ++ joined (drop (k + n) gs)) ≡ some gs
+    → ipv6 (joined (take k gs) ++ (58 ∷ 58 ∷ []) ++ joined (drop (k + n) gs)) ≡ Some gs
 ipv6_run gs k n e b h l z =
     ipv6_sides (take k gs) (drop (k + n) gs) (below_take k gs b) (below_drop (k + n) gs b) (omega (arith, length-take k gs, length-drop (k + n) gs))
-    ∙ ap some (rw count (sym (around_run gs k n z)))
+    ∙ ap Some (rw count (sym (around_run gs k n z)))
   where
     count : 8 - length (drop (k + n) gs) - length (take k gs) ≡ n
     count = omega (arith, length-take k gs, length-drop (k + n) gs)
 
-pub ipv6_plain : (gs : List ℕ) → length gs ≡ 8 → Below gs → ipv6 (plain gs) ≡ some gs
+pub ipv6_plain : (gs : List ℕ) → length gs ≡ 8 → Below gs → ipv6 (plain gs) ≡ Some gs
 unfolding plain shortened
 ipv6_plain gs e b = go (leb 2 (longest gs)) refl
   where
     go : (t : Bool) → leb 2 (longest gs) ≡ t
-        → ipv6 (cond t (joined (take (first_run (longest gs) gs) gs) ++ (58 ∷ 58 ∷ []) ++ joined (drop (first_run (longest gs) gs + longest gs) gs)) (joined gs)) ≡ some gs
+        → ipv6 (cond t (joined (take (first_run (longest gs) gs) gs) ++ (58 ∷ 58 ∷ []) ++ joined (drop (first_run (longest gs) gs + longest gs) gs)) (joined gs)) ≡ Some gs
     go true f =
         ipv6_run gs (first_run (longest gs) gs) (longest gs) e b (omega (arith, leb-true 2 (longest gs) f)) (omega (arith, first_within gs)) (run_zeros_at (longest gs) gs (le_refl (longest gs)))
     go false f = ipv6_joined gs e b
 
 -- the dotted tail
-each_stop : (f : ℕ → Option ℕ) (c : ℕ) → f c ≡ none → (p s : List ℕ) → each f (p ++ (c ∷ s)) ≡ none
+each_stop : (f : ℕ → Option ℕ) (c : ℕ) → f c ≡ None → (p s : List ℕ) → each f (p ++ (c ∷ s)) ≡ None
 unfolding each
 each_stop f c h [] s = rw h
 each_stop f c h (b ∷ p) s = rw (each_stop f c h p s) (go (f b))
   where
-    go : (m : Option ℕ) → prepend m none ≡ none
-    go (some d) = refl
-    go none = refl
+    go : (m : Option ℕ) → prepend m None ≡ None
+    go (Some d) = refl
+    go None = refl
 
-group_dotted : (n : ℕ) → group (dotted n) ≡ none
+group_dotted : (n : ℕ) → group (dotted n) ≡ None
 unfolding group
 group_dotted n = rw z (go (leb 1 (length (dotted n)) && leb (length (dotted n)) 4))
   where
-    z : each hex_digit (dotted n) ≡ none
+    z : each hex_digit (dotted n) ≡ None
     z = rw (dotted_is n) (each_stop hex_digit 46 dot (decimal (n / 16777216 % 256)) (behind1 n))
 
-    go : (t : Bool) → cond {A = Option ℕ} t none none ≡ none
+    go : (t : Bool) → cond {A = Option ℕ} t None None ≡ None
     go true = refl
     go false = refl
 
@@ -387,15 +385,15 @@ mapped_groups l h =
     let c : l / 65536 % 65536 ≡ l % 4294967296 / 65536 = omega arith in
     let d : l % 65536 ≡ l % 4294967296 % 65536 = omega arith in rw (a, b, c, d)
 
-mapped_left : (a b : ℕ) → filled (side false []) (some (65535 ∷ a ∷ b ∷ [])) ≡ some (0 ∷ 0 ∷ 0 ∷ 0 ∷ 0 ∷ 65535 ∷ a ∷ b ∷ [])
+mapped_left : (a b : ℕ) → filled (side false []) (Some (65535 ∷ a ∷ b ∷ [])) ≡ Some (0 ∷ 0 ∷ 0 ∷ 0 ∷ 0 ∷ 65535 ∷ a ∷ b ∷ [])
 unfolding side
 mapped_left a b = refl
 
-ffff : group (102 ∷ 102 ∷ 102 ∷ 102 ∷ []) ≡ some 65535
+ffff : group (102 ∷ 102 ∷ 102 ∷ 102 ∷ []) ≡ Some 65535
 unfolding group each number hex_digit
 ffff = refl
 
-mapped_right : (m : ℕ) → m < 2 ^ 32 → side true (102 ∷ 102 ∷ 102 ∷ 102 ∷ 58 ∷ dotted m) ≡ some (65535 ∷ m / 65536 ∷ m % 65536 ∷ [])
+mapped_right : (m : ℕ) → m < 2 ^ 32 → side true (102 ∷ 102 ∷ 102 ∷ 102 ∷ 58 ∷ dotted m) ≡ Some (65535 ∷ m / 65536 ∷ m % 65536 ∷ [])
 unfolding side groups
 mapped_right m h =
     rw (parts_append 58 (102 ∷ 102 ∷ 102 ∷ 102 ∷ []) (dotted m) f, parts_free 58 (dotted m) (dotted_free 58 m refl (λ z. omega arith)), ffff, group_dotted m, ipv4_dotted m h)
@@ -403,7 +401,7 @@ mapped_right m h =
     f : Free 58 (102 ∷ 102 ∷ 102 ∷ 102 ∷ [])
     f = ((λ z. omega arith), ((λ z. omega arith), ((λ z. omega arith), ((λ z. omega arith), tt))))
 
-pub ipv6_mapped : (l : ℕ) → l / 4294967296 ≡ 65535 → ipv6 (mapped l) ≡ some (groups_of 0 l)
+pub ipv6_mapped : (l : ℕ) → l / 4294967296 ≡ 65535 → ipv6 (mapped l) ≡ Some (groups_of 0 l)
 unfolding ipv6 mapped gap
 ipv6_mapped l h =
     simp (lt-ltb 0 (length (58 ∷ 58 ∷ 102 ∷ 102 ∷ 102 ∷ 102 ∷ 58 ∷ dotted (l % 4294967296))) (omega arith))
@@ -424,32 +422,32 @@ half_back x h =
     let e : x / 65536 ≡ x / 4294967296 * 65536 + x / 65536 % 65536 = omega arith in omega arith
 
 -- no IPv6 text is an IPv4 address
-ipv4_no_dot : (s : List ℕ) → Free 46 s → ipv4 s ≡ none
+ipv4_no_dot : (s : List ℕ) → Free 46 s → ipv4 s ≡ None
 unfolding ipv4 each
 ipv4_no_dot s f = rw (parts_free 46 s f) (go (octet s))
   where
-    go : (m : Option ℕ) → four (prepend m (some [])) ≡ none
-    go (some o) = refl
-    go none = refl
+    go : (m : Option ℕ) → four (prepend m (Some [])) ≡ None
+    go (Some o) = refl
+    go None = refl
 
-ipv4_colon : (s : List ℕ) → ipv4 (58 ∷ s) ≡ none
+ipv4_colon : (s : List ℕ) → ipv4 (58 ∷ s) ≡ None
 unfolding ipv4 each before octet digits behind
 ipv4_colon s = rw (parts_cons 46 (58 ∷ s)) (go (leb (suc (length (before 46 s))) 3 && not (leading_zero (58 ∷ before 46 s))))
   where
-    go : (t : Bool) → four (prepend (cond t none none) (each octet (later 46 (58 ∷ s)))) ≡ none
+    go : (t : Bool) → four (prepend (cond t None None) (each octet (later 46 (58 ∷ s)))) ≡ None
     go true = refl
     go false = refl
 
-mapped_not_4 : (l : ℕ) → ipv4 (mapped l) ≡ none
+mapped_not_4 : (l : ℕ) → ipv4 (mapped l) ≡ None
 unfolding mapped
 mapped_not_4 l = ipv4_colon (58 ∷ 102 ∷ 102 ∷ 102 ∷ 102 ∷ 58 ∷ dotted (l % 4294967296))
 
-colons_free : (c : ℕ) → hex_digit c ≡ none → (58 ≡ c → ⊥) → (gs : List ℕ) → Below gs → Free c (behind_colons gs)
+colons_free : (c : ℕ) → hex_digit c ≡ None → (58 ≡ c → ⊥) → (gs : List ℕ) → Below gs → Free c (behind_colons gs)
 unfolding behind_colons
 colons_free c h d [] b = tt
 colons_free c h d (g ∷ gs) b = (d, free_append c (hex g) (behind_colons gs) (hex_free c g h b.0) (colons_free c h d gs b.1))
 
-pub joined_free : (c : ℕ) → hex_digit c ≡ none → (58 ≡ c → ⊥) → (gs : List ℕ) → Below gs → Free c (joined gs)
+pub joined_free : (c : ℕ) → hex_digit c ≡ None → (58 ≡ c → ⊥) → (gs : List ℕ) → Below gs → Free c (joined gs)
 unfolding joined
 joined_free c h d [] b = tt
 joined_free c h d (g ∷ gs) b = free_append c (hex g) (behind_colons gs) (hex_free c g h b.0) (colons_free c h d gs b.1)
@@ -474,7 +472,7 @@ Fit (V4 n) = n < 2 ^ 32
 Fit (V6 u l) = (u < 2 ^ 64) × (l < 2 ^ 64)
 
 -- what is printed of an address reads as that address
-pub address_back : (a : IpAddr) → Fit a → address (address_text a) ≡ some a
+pub address_back : (a : IpAddr) → Fit a → address (address_text a) ≡ Some a
 unfolding address address_text ipv6_text
 address_back (V4 n) h = rw (ipv4_dotted n h)
 address_back (V6 u l) h = go (eqb u 0) refl (eqb (l / 4294967296) 65535) refl
@@ -482,13 +480,13 @@ address_back (V6 u l) h = go (eqb u 0) refl (eqb (l / 4294967296) 65535) refl
     small : Below (groups_of u l)
     small = below_append (quarters u) (quarters l) (half_small u h.0) (half_small l h.1)
 
-    back : (x : Option (List ℕ)) → x ≡ some (groups_of u l) → either none x ≡ some (V6 u l)
-    back x e = rw e (ap some (rw (half_back u h.0, half_back l h.1)))
+    back : (x : Option (List ℕ)) → x ≡ Some (groups_of u l) → either None x ≡ Some (V6 u l)
+    back x e = rw e (ap Some (rw (half_back u h.0, half_back l h.1)))
 
-    other : address (plain (groups_of u l)) ≡ some (V6 u l)
+    other : address (plain (groups_of u l)) ≡ Some (V6 u l)
     other = rw (ipv4_no_dot (plain (groups_of u l)) (plain_free (groups_of u l) small)) (back (ipv6 (plain (groups_of u l))) (ipv6_plain (groups_of u l) refl small))
 
-    go : (s : Bool) → eqb u 0 ≡ s → (t : Bool) → eqb (l / 4294967296) 65535 ≡ t → address (cond (s && t) (mapped l) (plain (groups_of u l))) ≡ some (V6 u l)
+    go : (s : Bool) → eqb u 0 ≡ s → (t : Bool) → eqb (l / 4294967296) 65535 ≡ t → address (cond (s && t) (mapped l) (plain (groups_of u l))) ≡ Some (V6 u l)
     go true e true f =
         let z : u ≡ 0 = eqb-true u 0 e in
         rw (mapped_not_4 l) (back (ipv6 (mapped l)) (ipv6_mapped l (eqb-true (l / 4294967296) 65535 f) ∙ rw z))
@@ -496,15 +494,15 @@ address_back (V6 u l) h = go (eqb u 0) refl (eqb (l / 4294967296) 65535) refl
     go false e t f = other
 
 -- what is printed of a valid prefix reads as that prefix
-length_back : (w m n : ℕ) → n < 10 ^ suc w → n ≤ m → length_of (suc w) m (decimal n) ≡ some n
+length_back : (w m n : ℕ) → n < 10 ^ suc w → n ≤ m → length_of (suc w) m (decimal n) ≡ Some n
 unfolding length_of
 length_back w m n h l = simp (le-leb (length (decimal n)) (suc w) (digits_most w n h), digits_decimal n, lt-ltb n (m + 1) (omega arith))
 
-length_for_lem : (a : IpAddr) (n : ℕ) → n ≤ bits a → length_for a (decimal n) ≡ some n
+length_for_lem : (a : IpAddr) (n : ℕ) → n ≤ bits a → length_for a (decimal n) ≡ Some n
 length_for_lem (V4 k) n h = length_back 1 32 n (omega arith) h
 length_for_lem (V6 u l) n h = length_back 2 128 n (omega arith) h
 
-pub prefix_back : (p : NetworkPrefix) → Fit p.addr → p.len ≤ bits p.addr → prefix (prefix_text p) ≡ some p
+pub prefix_back : (p : NetworkPrefix) → Fit p.addr → p.len ≤ bits p.addr → prefix (prefix_text p) ≡ Some p
 unfolding prefix prefix_text
 prefix_back p f h =
     rw place
@@ -520,8 +518,8 @@ prefix_back p f h =
     right = drop_at (address_text p.addr ++ (47 ∷ [])) (decimal p.len) (length (address_text p.addr) + 1) (length-append (address_text p.addr) (47 ∷ []))
 
 -- the same of the answers that reading gives
-pub read_address_back : (a : IpAddr) → Fit a → read_address (address_text a) ≡ Address a
-read_address_back a f = ap as_address (address_back a f)
+pub read_address_back : (a : IpAddr) → Fit a → read_address (address_text a) ≡ Some a
+read_address_back a f = (address_back a f)
 
-pub read_prefix_back : (p : NetworkPrefix) → Fit p.addr → valid_prefix p ≡ true → read_prefix (prefix_text p) ≡ Prefix p
-read_prefix_back p f h = ap as_prefix (prefix_back p f (leb-true p.len (bits p.addr) h))
+pub read_prefix_back : (p : NetworkPrefix) → Fit p.addr → valid_prefix p ≡ true → read_prefix (prefix_text p) ≡ Some p
+read_prefix_back p f h = (prefix_back p f (leb-true p.len (bits p.addr) h))

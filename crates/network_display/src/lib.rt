@@ -6,7 +6,7 @@ ghost use Rattle.output.specs.Output.{Written, front, answer};
 ghost use Rattle.network_display.specs.Text.{address_text, prefix_text};
 
 use network::{IpAddr, NetworkPrefix};
-use output::Put;
+use output::PutError;
 
 pub fn write_address(a: IpAddr, out: &mut [u8], at: usize) -> usize
     ensures { Written (address_text a) out.old at out.new result }
@@ -35,13 +35,13 @@ pub fn address_len(a: IpAddr) -> usize
     write_address(a, &mut places, 0)
 }
 
-pub fn put_address(a: IpAddr, out: &mut [u8]) -> Put
+pub fn put_address(a: IpAddr, out: &mut [u8]) -> Result<usize, PutError>
     ensures { (result ≡ answer (address_text a) out.old) × (out.new ≡ front (address_text a) out.old) }
 {
     if out.len() < address_len(a) {
-        return Put::TooShort;
+        return Err(PutError::TooShort);
     }
-    Put::Wrote(write_address(a, out, 0))
+    Ok(write_address(a, out, 0))
 }
 
 pub fn prefix_text_len(p: NetworkPrefix) -> usize
@@ -52,11 +52,11 @@ pub fn prefix_text_len(p: NetworkPrefix) -> usize
     address_len(addr) + 1 + decimal_display::decimal_len(len as u64)
 }
 
-pub fn put_prefix(p: NetworkPrefix, out: &mut [u8]) -> Put
+pub fn put_prefix(p: NetworkPrefix, out: &mut [u8]) -> Result<usize, PutError>
     ensures { (result ≡ answer (prefix_text p) out.old) × (out.new ≡ front (prefix_text p) out.old) }
 {
     if out.len() < prefix_text_len(p) {
-        return Put::TooShort;
+        return Err(PutError::TooShort);
     }
-    Put::Wrote(write_prefix(p, out, 0))
+    Ok(write_prefix(p, out, 0))
 }

@@ -5,16 +5,8 @@ use lib.Ieee.Fits.{down_pos, and_r, of_int-fits}
 use lib.Ieee.Exact.{HasValue}
 use lib.Ieee.Back.{round_whole, unsigned_back, Float-back_unsigned}
 use lib.Ieee.Bits.{of_bits-to_bits}
-use mathlib.Core.Option.{Option, some, none}
-use Rattle.seconds.specs.Seconds.{whole_number, as_magnitude}
-use Rattle.seconds.specs.declared.Magnitude.{Magnitude}
-use Rattle.seconds.specs.declared.Magnitude.TheVariants.{Number, Nothing}
-
-pub no_nan : (x y : Float) → T (lt x y) → T (not (is_nan x))
-unfolding lt is_nan
-no_nan nan y h = absurd h
-no_nan (inf s) y h = tt
-no_nan (fin s m e) y h = tt
+use Rattle.std.specs.Prelude.{Some, None}
+use Rattle.seconds.specs.Seconds.{whole_number}
 
 valued : (x : Float) (s : Bool) (a c : ℕ) → HasValue x s a c → T (not (is_nan x))
 unfolding is_nan
@@ -63,38 +55,30 @@ not_under x e t = subst T e (under x t)
 
 -- ---- what `whole_number` is, and what an answer tells of it
 
-yes : (b : Bool) (n : ℕ) → T b → as_magnitude (cond b (some n) none) ≡ Number n
+yes : (b : Bool) (n : ℕ) → T b → cond b (Some n) None ≡ Some n
 yes true n t = refl
 yes false n t = absurd t
 
-pub no : (b : Bool) (n : ℕ) → (T b → ⊥) → as_magnitude (cond b (some n) none) ≡ Nothing
+pub no : (b : Bool) (n : ℕ) → (T b → ⊥) → cond b (Some n) None ≡ None
 no true n f = absurd (f tt)
 no false n f = refl
-
-pub number_some : (m : Option ℕ) (r : Magnitude) (n : ℕ) → r ≡ as_magnitude m → r ≡ Number n → m ≡ some n
-number_some (some k) r n e f = cc
-number_some none r n e f = let z : ◌≡◌ {A = ℕ} 0 1 = cc in absurd (omega arith)
-
-pub nothing_none : (m : Option ℕ) (r : Magnitude) → r ≡ as_magnitude m → r ≡ Nothing → m ≡ none
-nothing_none (some k) r e f = let z : ◌≡◌ {A = ℕ} 0 1 = cc in absurd (omega arith)
-nothing_none none r e f = refl
 
 same : (x y : Float) → T (fits binary64 x) → T (fits binary64 y) → to_bits binary64 x ≡ to_bits binary64 y → x ≡ y
 same x y hx hy e = sym (of_bits-to_bits binary64 x hx) ∙ ap (of_bits binary64) e ∙ of_bits-to_bits binary64 y hy
 
 module _ (x : Float) (n : ℕ) (held : T (fits binary64 x)) (cut : n ≡ to_unsigned 64 x) where
-  pub found : n ≤ 2 ^ 53 → n < 2 ^ 64 → to_bits binary64 x ≡ to_bits binary64 (of_int binary64 (pos n)) → Number n ≡ as_magnitude (whole_number x)
+  pub found : n ≤ 2 ^ 53 → n < 2 ^ 64 → to_bits binary64 x ≡ to_bits binary64 (of_int binary64 (pos n)) → Some n ≡ whole_number x
   found h k e =
       let is : x ≡ of_int binary64 (pos n) = same x (of_int binary64 (pos n)) held (of_int-fits binary64 (pos n)) e in
       let t : T (in_unsigned binary64 64 x) = subst (λ (y : Float). T (in_unsigned binary64 64 y)) (sym is) (unsigned_back binary64 64 n (exact n h) k).0 in
-      ap Number cut ∙ sym (yes (in_unsigned binary64 64 x) (to_unsigned 64 x) t)
+      ap Some cut ∙ sym (yes (in_unsigned binary64 64 x) (to_unsigned 64 x) t)
 
-  pub other_bits : (to_bits binary64 x ≡ to_bits binary64 (of_int binary64 (pos n)) → ⊥) → Nothing ≡ as_magnitude (whole_number x)
+  pub other_bits : (to_bits binary64 x ≡ to_bits binary64 (of_int binary64 (pos n)) → ⊥) → None ≡ whole_number x
   other_bits ne =
       sym (no (in_unsigned binary64 64 x) (to_unsigned 64 x)
       (λ (t : T (in_unsigned binary64 64 x)). ne (sym (ap (to_bits binary64) (ap (λ (k : ℕ). of_int binary64 (pos k)) cut ∙ (Float-back_unsigned binary64 64 x held t).1)))))
 
-  pub too_large : 2 ^ 53 < n → Nothing ≡ as_magnitude (whole_number x)
+  pub too_large : 2 ^ 53 < n → None ≡ whole_number x
   too_large h =
       sym (no (in_unsigned binary64 64 x) (to_unsigned 64 x)
       (λ (t : T (in_unsigned binary64 64 x)).

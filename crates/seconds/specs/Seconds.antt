@@ -1,30 +1,23 @@
 -- Timestamps (01, Records): an f64 holding a whole number, -62167219200 to 253402300799, never negative zero. It counts seconds from 1970.
 -- A second is the same moment counted from the start of the year 0, a number from 0 to 315569519999.
-use Rattle.std.specs.Prelude.{ℕ, ◌+◌, ◌-◌, Bool, true, false, cond, List, pos, from_bits, nat_le, nat_lt, Float}
-use Rattle.std.proofs.Math.Option.{Option, some, none}
+use Rattle.std.specs.Prelude.{is_some, ℕ, ◌+◌, ◌-◌, Bool, true, false, cond, List, pos, from_bits, nat_le, nat_lt, Float, Option, Some, None}
 use Rattle.std.specs.Float.{fin, binary64}
 use Rattle.std.specs.Float.Ieee.{lt, neg, in_unsigned, to_unsigned, of_int}
 use Rattle.decimal_display.specs.Printed.{difference}
-use Rattle.seconds.specs.declared.Magnitude.{Magnitude}
-use Rattle.seconds.specs.declared.Magnitude.TheVariants as magnitude
-use Rattle.seconds.specs.declared.SecondRead.{SecondRead}
-use Rattle.seconds.specs.declared.SecondRead.TheVariants.{Second, Nothing}
-use Rattle.seconds.specs.declared.TimestampRead.{TimestampRead}
-use Rattle.seconds.specs.declared.TimestampRead.TheVariants as timestamp
 
 -- the whole number that x is: finite, with no fraction, 0 or more, at most 2 ^ 53, and not -0 (IEEE 754; `in_unsigned` of lib.Ieee)
 abbrev pub whole_number : Float → Option ℕ
-whole_number x = cond (in_unsigned binary64 64 x) (some (to_unsigned 64 x)) none
+whole_number x = cond (in_unsigned binary64 64 x) (Some (to_unsigned 64 x)) None
 
 -- n seconds before the start of 1970, which is 62167219200 seconds after that of the year 0
 abbrev pub before1970 : Option ℕ → Option ℕ
-before1970 (some n) = cond (nat_le n 62167219200) (some (62167219200 - n)) none
-before1970 none = none
+before1970 (Some n) = cond (nat_le n 62167219200) (Some (62167219200 - n)) None
+before1970 None = None
 
 -- n seconds after it, and not after the year 9999
 abbrev pub since1970 : Option ℕ → Option ℕ
-since1970 (some n) = cond (nat_le n 253402300799) (some (62167219200 + n)) none
-since1970 none = none
+since1970 (Some n) = cond (nat_le n 253402300799) (Some (62167219200 + n)) None
+since1970 None = None
 
 -- the second of the timestamp t; none where t is no timestamp
 unfoldable pub second_of : Float → Option ℕ
@@ -35,28 +28,15 @@ unfoldable pub timestamp_of : ℕ → Float
 timestamp_of second =
     cond (nat_lt second 62167219200) (neg (of_int binary64 (pos (62167219200 - second)))) (of_int binary64 (pos (second - 62167219200)))
 
-abbrev pub is_some : Option ℕ → Bool
-is_some (some n) = true
-is_some none = false
-
 -- whether t is a timestamp
 abbrev pub is_timestamp : Float → Bool
 is_timestamp t = is_some (second_of t)
 
--- the answers
-abbrev pub as_magnitude : Option ℕ → Magnitude
-as_magnitude (some n) = magnitude.Number n
-as_magnitude none = magnitude.Nothing
-
-abbrev pub as_second : Option ℕ → SecondRead
-as_second (some n) = Second n
-as_second none = Nothing
-
 -- the timestamp whose bits these are
-abbrev pub if_timestamp : Float → TimestampRead
-if_timestamp t = cond (is_timestamp t) (timestamp.Timestamp t) timestamp.Nothing
+abbrev pub if_timestamp : Float → Option Float
+if_timestamp t = cond (is_timestamp t) (Some t) None
 
-unfoldable pub timestamp_of_bits : ℕ → TimestampRead
+unfoldable pub timestamp_of_bits : ℕ → Option Float
 timestamp_of_bits bits = if_timestamp (from_bits binary64 bits)
 
 -- the timestamp of a second, printed

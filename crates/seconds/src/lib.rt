@@ -4,69 +4,44 @@
 
 ghost use Rattle.std.specs.Prelude.{◌≡◌, ◌≤◌, length};
 ghost use Rattle.output.specs.Output.{Written, front, answer};
-ghost use Rattle.seconds.specs.Seconds.{whole_number, as_magnitude, second_of, as_second, timestamp_of, is_timestamp, timestamp_of_bits, timestamp_text};
+ghost use Rattle.seconds.specs.Seconds.{whole_number, second_of, timestamp_of, is_timestamp, timestamp_of_bits, timestamp_text};
 
-use output::Put;
+use output::PutError;
 
-#[derive(Clone, Copy)]
-enum Magnitude {
-    Number(u64),
-    Nothing,
-}
+// The start of 1970.
+const EPOCH: u64 = 62167219200;
 
-#[derive(Clone, Copy)]
-pub enum SecondRead {
-    Second(u64),
-    Nothing,
-}
+// The last second of the year 9999, counted from 1970.
+const LAST: u64 = 253402300799;
 
-#[derive(Clone, Copy)]
-pub enum TimestampRead {
-    Timestamp(f64),
-    Nothing,
-}
-
-// The whole number that x is. Its float is made again and compared by its bits, so that -0.0 and what has a fraction differ.
-fn whole_number(x: f64) -> Magnitude
-    ensures { result ≡ as_magnitude (whole_number x) }
+// The whole number that x is. Its float is made again and compared by its bits, so that -0.0 and
+// what has a fraction differ.
+fn whole_number(x: f64) -> Option<u64>
+    ensures { result ≡ whole_number x }
 {
-    if x > -1.0 {
-        if x < 18446744073709551616.0 {
-            let n = std::num::truncating_f64_to_u64(x);
-            if n <= 9007199254740992 {
-                let back = n as f64;
-                if f64::to_bits(x) == f64::to_bits(back) {
-                    return Magnitude::Number(n);
-                }
-            }
+    if x > -1.0 && x < 18446744073709551616.0 {
+        let n = std::num::truncating_f64_to_u64(x);
+        if n <= 9007199254740992 && x.to_bits() == (n as f64).to_bits() {
+            return Some(n);
         }
     }
-    Magnitude::Nothing
+    None
 }
 
 // The second of a timestamp; Nothing where t is none.
-pub fn second_of(t: f64) -> SecondRead
-    ensures { result ≡ as_second (second_of t) }
+pub fn second_of(t: f64) -> Option<u64>
+    ensures { result ≡ second_of t }
 {
+    // Stays two halves: they differ in the sign, the limit and the operation.
     if t < 0.0 {
-        let Magnitude::Number(n) = whole_number(-t) else {
-            return SecondRead::Nothing;
-        };
-        let in_range = n <= 62167219200;
-        if in_range {
-            SecondRead::Second(62167219200 - n)
-        } else {
-            SecondRead::Nothing
+        match whole_number(-t) {
+            Some(n) if n <= EPOCH => Some(EPOCH - n),
+            _ => None,
         }
     } else {
-        let Magnitude::Number(n) = whole_number(t) else {
-            return SecondRead::Nothing;
-        };
-        let in_range = n <= 253402300799;
-        if in_range {
-            SecondRead::Second(62167219200 + n)
-        } else {
-            SecondRead::Nothing
+        match whole_number(t) {
+            Some(n) if n <= LAST => Some(EPOCH + n),
+            _ => None,
         }
     }
 }
@@ -75,8 +50,8 @@ pub fn is_timestamp(t: f64) -> bool
     ensures { result ≡ is_timestamp t }
 {
     match second_of(t) {
-        SecondRead::Second(_) => true,
-        SecondRead::Nothing => false,
+        Some(_) => true,
+        None => false,
     }
 }
 
@@ -84,46 +59,46 @@ pub fn is_timestamp(t: f64) -> bool
 pub fn timestamp_of(second: u64) -> f64
     ensures { result ≡ timestamp_of second }
 {
-    if second < 62167219200 {
-        -std::num::nearest_u64_to_f64(62167219200 - second)
+    if second < EPOCH {
+        -std::num::nearest_u64_to_f64(EPOCH - second)
     } else {
-        std::num::nearest_u64_to_f64(second - 62167219200)
+        std::num::nearest_u64_to_f64(second - EPOCH)
     }
 }
 
 // The timestamp whose bits these are. They come from anywhere: those of a NaN are refused before they become a float.
-pub fn timestamp_of_bits(bits: u64) -> TimestampRead
+pub fn timestamp_of_bits(bits: u64) -> Option<f64>
     ensures { result ≡ timestamp_of_bits bits }
 {
     let nan = bits % 0x8000_0000_0000_0000 > 0x7ff0_0000_0000_0000;
     if nan {
-        return TimestampRead::Nothing;
+        return None;
     }
     let t = f64::from_bits(bits);
-    let SecondRead::Second(_) = second_of(t) else {
-        return TimestampRead::Nothing;
+    let Some(_) = second_of(t) else {
+        return None;
     };
-    TimestampRead::Timestamp(t)
+    Some(t)
 }
 
 // The timestamp of a second printed, as Rust's Display prints such an f64.
 pub fn timestamp_len(second: u64) -> usize
     ensures { (result ≡ length (timestamp_text second)) × (result ≤ 21) }
 {
-    decimal_display::difference_len(second, 62167219200)
+    decimal_display::difference_len(second, EPOCH)
 }
 
 pub fn write_timestamp(second: u64, out: &mut [u8], at: usize) -> usize
     ensures { Written (timestamp_text second) out.old at out.new result }
 {
-    decimal_display::write_difference(second, 62167219200, out, at)
+    decimal_display::write_difference(second, EPOCH, out, at)
 }
 
-pub fn put_timestamp(second: u64, out: &mut [u8]) -> Put
+pub fn put_timestamp(second: u64, out: &mut [u8]) -> Result<usize, PutError>
     ensures { (result ≡ answer (timestamp_text second) out.old) × (out.new ≡ front (timestamp_text second) out.old) }
 {
     if out.len() < timestamp_len(second) {
-        return Put::TooShort;
+        return Err(PutError::TooShort);
     }
-    Put::Wrote(write_timestamp(second, out, 0))
+    Ok(write_timestamp(second, out, 0))
 }

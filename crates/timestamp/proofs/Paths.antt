@@ -4,20 +4,16 @@ use mathlib.Core.Bool.{Bool, true, false, not, cond}
 use mathlib.Core.List.{List}
 use Prim.Native.Nat.{ℕ, ◌-◌}
 use lib.Ieee.{Float}
+use Rattle.std.specs.Prelude.{Option, Some, None, Ok, Err}
 use lib.ListN.{length, take, drop}
 use borrow.Author.Tests.{not-true, not-false}
 use Rattle.utf8.specs.Utf8.{readable}
 use Rattle.calendar.specs.declared.Date.{Date}
-use Rattle.seconds.specs.Seconds.{as_second, timestamp_of}
-use Rattle.seconds.specs.declared.SecondRead.{SecondRead}
-use Rattle.seconds.specs.declared.SecondRead.TheVariants as second
+use Rattle.seconds.specs.Seconds.{timestamp_of}
 use Rattle.seconds.proofs.Callers.{second_some, second_none}
-use Rattle.timestamp.specs.Dates.{dashed, dotted, has_shape, digit_before, date_of, moment_of, moment_in, is_dashed, is_dotted, first_place, as_place, noon_in, second_in, as_inferred, infer_timestamp, refusal}
-use Rattle.timestamp.specs.declared.Place.{Place}
-use Rattle.timestamp.specs.declared.Place.TheVariants as place
-use Rattle.timestamp.specs.declared.Inferred.TheVariants.{Timestamp, Nothing, NotUtf8}
+use Rattle.timestamp.specs.Dates.{dashed, dotted, has_shape, digit_before, date_of, moment_of, moment_in, is_dashed, is_dotted, first_place, noon_in, second_in, as_inferred, infer_timestamp, refusal}
+use Rattle.timestamp.specs.declared.InferError.TheVariants.{NotUtf8}
 use Rattle.timestamp.proofs.Shapes.{part_is}
-use Rattle.timestamp.proofs.Places.{place_some, place_none}
 
 -- the path from the place on, as the code has it
 abbrev part : List ℕ → ℕ → List ℕ
@@ -37,15 +33,15 @@ module _ (path : List ℕ) (i : ℕ) (b : Bool) (eb : b ≡ digit_before path i)
     unfolding is_dashed
     unshaped g = rw (← eb, h, ← shaped, not-true f g)
 
-    module _ (g : not f ≡ false) (r : SecondRead) (er : r ≡ as_second (moment_in (part path i))) where
-      read : r ≡ as_second (moment_in (drop i path))
-      read = er ∙ ap (λ (s : List ℕ). as_second (moment_in s)) (part_is path i)
+    module _ (g : not f ≡ false) (r : Option ℕ) (er : r ≡ moment_in (part path i)) where
+      read : r ≡ moment_in (drop i path)
+      read = er ∙ ap (λ (s : List ℕ). (moment_in s)) (part_is path i)
 
-      pub a_moment : (o : ℕ) → r ≡ second.Second o → true ≡ is_dashed path i
+      pub a_moment : (o : ℕ) → r ≡ Some o → true ≡ is_dashed path i
       unfolding is_dashed
       a_moment o e = rw (← eb, h, ← shaped, not-false f g, second_some (moment_in (drop i path)) r o read e)
 
-      pub no_moment : r ≡ second.Nothing → false ≡ is_dashed path i
+      pub no_moment : r ≡ None → false ≡ is_dashed path i
       unfolding is_dashed
       no_moment e = rw (← eb, h, ← shaped, not-false f g, second_none (moment_in (drop i path)) r read e)
 
@@ -55,33 +51,33 @@ unfolding is_dotted
 is_dotted_lem path i f e = e ∙ ap (has_shape dotted) (part_is path i)
 
 -- the noon of the first date with dots, which is at p
-module _ (path : List ℕ) (p : Place) (e : p ≡ as_place (first_place (is_dotted path) path)) where
-  pub no_noon : p ≡ place.Nothing → second.Nothing ≡ as_second (noon_in path)
+module _ (path : List ℕ) (p : Option ℕ) (e : p ≡ first_place (is_dotted path) path) where
+  pub no_noon : p ≡ None → None ≡ noon_in path
   unfolding noon_in
-  no_noon f = rw (place_none (first_place (is_dotted path) path) p e f)
+  no_noon f = rw (← e, f)
 
-  pub noon_at_lem : (i : ℕ) (d : Date) (r : SecondRead) → p ≡ place.At i → d ≡ date_of (part path i) → r ≡ as_second (moment_of d 12 0)
-      → r ≡ as_second (noon_in path)
+  pub noon_at_lem : (i : ℕ) (d : Date) (r : Option ℕ) → p ≡ Some i → d ≡ date_of (part path i) → r ≡ moment_of d 12 0
+      → r ≡ noon_in path
   unfolding noon_in
-  noon_at_lem i d r f ed er = rw (place_some (first_place (is_dotted path) path) p e i f) (er ∙ ap (λ (x : Date). as_second (moment_of x 12 0)) (ed ∙ ap date_of (part_is path i)))
+  noon_at_lem i d r f ed er = rw (← e, f) (er ∙ ap (λ (x : Date). (moment_of x 12 0)) (ed ∙ ap date_of (part_is path i)))
 
 -- the second that the path names, the first date with dashes being at p
-module _ (path : List ℕ) (p : Place) (r : SecondRead) (e : p ≡ as_place (first_place (is_dashed path) path)) where
-  pub by_dots : p ≡ place.Nothing → r ≡ as_second (noon_in path) → r ≡ as_second (second_in path)
+module _ (path : List ℕ) (p : Option ℕ) (r : Option ℕ) (e : p ≡ first_place (is_dashed path) path) where
+  pub by_dots : p ≡ None → r ≡ noon_in path → r ≡ second_in path
   unfolding second_in
-  by_dots f er = rw (place_none (first_place (is_dashed path) path) p e f) er
+  by_dots f er = rw (← e, f) er
 
-  pub by_dashes : (i : ℕ) → p ≡ place.At i → r ≡ as_second (moment_in (part path i)) → r ≡ as_second (second_in path)
+  pub by_dashes : (i : ℕ) → p ≡ Some i → r ≡ moment_in (part path i) → r ≡ second_in path
   unfolding second_in
-  by_dashes i f er = rw (place_some (first_place (is_dashed path) path) p e i f) (er ∙ ap (λ (s : List ℕ). as_second (moment_in s)) (part_is path i))
+  by_dashes i f er = rw (← e, f) (er ∙ ap (λ (s : List ℕ). (moment_in s)) (part_is path i))
 
 -- the answer: u says whether the path is UTF-8, and r is its second
 module _ (path : List ℕ) (u : Bool) (eu : u ≡ readable path) where
-  answer : (b : Bool) → u ≡ b → infer_timestamp path ≡ cond b (as_inferred (second_in path)) NotUtf8
+  answer : (b : Bool) → u ≡ b → infer_timestamp path ≡ cond b (as_inferred (second_in path)) (Err NotUtf8)
   unfolding infer_timestamp
-  answer b h = ap (λ (x : Bool). cond x (as_inferred (second_in path)) NotUtf8) (sym eu ∙ h)
+  answer b h = ap (λ (x : Bool). cond x (as_inferred (second_in path)) (Err NotUtf8)) (sym eu ∙ h)
 
-  pub unreadable : not u ≡ true → NotUtf8 ≡ infer_timestamp path
+  pub unreadable : not u ≡ true → (Err NotUtf8) ≡ infer_timestamp path
   unreadable h = sym (answer false (not-true u h))
 
   pub refused : not u ≡ true → 3 ≡ refusal path
@@ -90,9 +86,9 @@ module _ (path : List ℕ) (u : Bool) (eu : u ≡ readable path) where
   pub answered : not u ≡ false → 0 ≡ refusal path
   answered h = ap (λ (x : Bool). cond x 0 3) (sym (not-false u h) ∙ eu)
 
-  module _ (h : not u ≡ false) (r : SecondRead) (e : r ≡ as_second (second_in path)) where
-    pub none_named : r ≡ second.Nothing → Nothing ≡ infer_timestamp path
+  module _ (h : not u ≡ false) (r : Option ℕ) (e : r ≡ second_in path) where
+    pub none_named : r ≡ None → (Ok None) ≡ infer_timestamp path
     none_named f = sym (answer true (not-false u h) ∙ ap as_inferred (second_none (second_in path) r e f))
 
-    pub one_named : (o : ℕ) (t : Float) → r ≡ second.Second o → t ≡ timestamp_of o → Timestamp t ≡ infer_timestamp path
+    pub one_named : (o : ℕ) (t : Float) → r ≡ Some o → t ≡ timestamp_of o → Ok (Some t) ≡ infer_timestamp path
     one_named o t f et = rw et (sym (answer true (not-false u h) ∙ ap as_inferred (second_some (second_in path) r o e f)))

@@ -2,7 +2,7 @@
 use mathlib.Core.Path.{◌≡◌, refl, sym, ap, ◌∙◌}
 use mathlib.Core.Bool.{Bool, true, false, not, ◌&&◌}
 use borrow.Author.Tests.{not-true, not-false}
-use mathlib.Core.List.{List, [], ◌∷◌}
+use mathlib.Core.List.{List}
 use Prim.Native.Nat.{ℕ, zero, suc, ◌+◌, ◌-◌, ◌*◌, ◌≤◌, ◌<◌}
 use native.Mathlib.Numerals.{add-one}
 use native.Mathlib.Omega.{arith}
@@ -38,12 +38,6 @@ pub date_is : (s : List ℕ) (a b m d : ℕ) → a ≡ two s 0 → b ≡ two s 2
     → record { year = 100 * a + b; month = m; day = d } ≡ date_of s
 unfolding date_of
 date_is s a b m d ea eb em ed = rw (ea, eb, em, ed)
-
--- beyond the end there is no digit
-pub beyond : (s : List ℕ) (at : ℕ) → length s ≤ at → 0 ≡ get_or s at 0 - 48
-beyond [] at h = refl
-beyond (b ∷ s) zero h = absurd (omega arith)
-beyond (b ∷ s) (suc at) h = beyond s at (omega arith)
 
 -- the digit before a place
 pub none_before : (path : List ℕ) (i : ℕ) → i ≡ 0 → false ≡ digit_before path i

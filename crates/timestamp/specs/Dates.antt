@@ -1,15 +1,13 @@
 -- Dates in a path (01, Dates, `infer_timestamp_from_path`).
-use Rattle.std.specs.Prelude.{ℕ, zero, suc, ◌+◌, ◌-◌, ◌*◌, List, [], ◌∷◌, Bool, true, false, cond, not, ◌&&◌, ◌||◌, leb, eqb, length, get_or, drop}
-use Rattle.std.proofs.Math.Option.{Option, some, none}
+use Rattle.std.specs.Float.Ieee.{Float}
+use Rattle.std.specs.Prelude.{is_some, ℕ, zero, suc, ◌+◌, ◌-◌, ◌*◌, List, [], ◌∷◌, Bool, true, false, cond, not, ◌&&◌, ◌||◌, leb, eqb, length, get_or, drop, Option, Some, None, Result, Ok, Err}
 use Rattle.decimal.specs.Decimal.{is_digit}
 use Rattle.utf8.specs.Utf8.{readable}
-use Rattle.seconds.specs.Seconds.{timestamp_of, is_some}
+use Rattle.seconds.specs.Seconds.{timestamp_of}
 use Rattle.calendar.specs.Calendar.{is_date, days_before}
 use Rattle.calendar.specs.declared.Date.{Date}
-use Rattle.timestamp.specs.declared.Place.{Place}
-use Rattle.timestamp.specs.declared.Place.TheVariants as place
-use Rattle.timestamp.specs.declared.Inferred.{Inferred}
-use Rattle.timestamp.specs.declared.Inferred.TheVariants.{Timestamp, Nothing, NotUtf8}
+use Rattle.timestamp.specs.declared.InferError.{InferError}
+use Rattle.timestamp.specs.declared.InferError.TheVariants.{NotUtf8}
 
 -- b stands where the shape has p: '0' is any digit, another byte is itself
 abbrev pub fits : ℕ → ℕ → Bool
@@ -38,7 +36,7 @@ date_of s = record { year = 100 * two s 0 + two s 2; month = two s 5; day = two 
 
 -- the second of a moment, counted from the start of the year 0: a date, hour to 23, minute to 59
 unfoldable pub moment_of : Date → ℕ → ℕ → Option ℕ
-moment_of d hour minute = cond (is_date d && leb hour 23 && leb minute 59) (some (days_before d * 86400 + (hour * 3600 + minute * 60))) none
+moment_of d hour minute = cond (is_date d && leb hour 23 && leb minute 59) (Some (days_before d * 86400 + (hour * 3600 + minute * 60))) None
 
 -- the moment of the YYYY-MM-DD-HHMM at the front of s
 unfoldable pub moment_in : List ℕ → Option ℕ
@@ -59,8 +57,8 @@ is_dotted path i = has_shape dotted (drop i path)
 
 -- the first of the n places from i on at which the test holds
 unfoldable pub first_from : (ℕ → Bool) → ℕ → ℕ → Option ℕ
-first_from test i zero = none
-first_from test i (suc n) = let r = first_from test (suc i) n in cond (test i) (some i) r
+first_from test i zero = None
+first_from test i (suc n) = let r = first_from test (suc i) n in cond (test i) (Some i) r
 
 -- the first place of the path
 abbrev pub first_place : (ℕ → Bool) → List ℕ → Option ℕ
@@ -68,38 +66,34 @@ first_place test path = first_from test 0 (length path)
 
 -- the first date with dots, at noon
 abbrev pub noon_at : List ℕ → Option ℕ → Option ℕ
-noon_at path (some i) = moment_of (date_of (drop i path)) 12 0
-noon_at path none = none
+noon_at path (Some i) = moment_of (date_of (drop i path)) 12 0
+noon_at path None = None
 
 unfoldable pub noon_in : List ℕ → Option ℕ
 noon_in path = noon_at path (first_place (is_dotted path) path)
 
 -- the first valid moment with dashes; failing that, the noon of the first date with dots
 abbrev pub moment_at : List ℕ → Option ℕ → Option ℕ
-moment_at path (some i) = moment_in (drop i path)
-moment_at path none = noon_in path
+moment_at path (Some i) = moment_in (drop i path)
+moment_at path None = noon_in path
 
 unfoldable pub second_in : List ℕ → Option ℕ
 second_in path = moment_at path (first_place (is_dashed path) path)
 
--- the answers
-abbrev pub as_place : Option ℕ → Place
-as_place (some i) = place.At i
-as_place none = place.Nothing
-
-abbrev pub as_inferred : Option ℕ → Inferred
-as_inferred (some o) = Timestamp (timestamp_of o)
-as_inferred none = Nothing
+-- the answer
+abbrev pub as_inferred : Option ℕ → Result (Option Float) InferError
+as_inferred (Some o) = Ok (Some (timestamp_of o))
+as_inferred None = (Ok None)
 
 -- 01, Where a call says no: 3, path not UTF-8
-unfoldable pub infer_timestamp : List ℕ → Inferred
-infer_timestamp path = cond (readable path) (as_inferred (second_in path)) NotUtf8
+unfoldable pub infer_timestamp : List ℕ → Result (Option Float) InferError
+infer_timestamp path = cond (readable path) (as_inferred (second_in path)) (Err NotUtf8)
 
 -- 01's number of the refusal, and 0 for an answer
-abbrev pub number : Inferred → ℕ
-number (Timestamp t) = 0
-number Nothing = 0
-number NotUtf8 = 3
+abbrev pub number : Result (Option Float) InferError → ℕ
+number (Ok (Some t)) = 0
+number (Ok None) = 0
+number (Err NotUtf8) = 3
 
 -- the refusal that a path meets
 abbrev pub refusal : List ℕ → ℕ

@@ -1,53 +1,32 @@
 // The date in a file's path (`infer_timestamp_from_path`), and the moment that it names.
 #![tactic(auto)]
 
-ghost use Rattle.std.specs.Prelude.{◌≡◌, ◌+◌, ◌-◌, ◌≤◌, ◌<◌, length, get_or};
-ghost use Rattle.decimal.specs.Decimal.{is_digit};
-ghost use Rattle.seconds.specs.Seconds.{as_second};
-ghost use Rattle.timestamp.specs.Dates.{fits as fitsByte, has_shape, digit_before, two as twoDigits, date_of, moment_of, moment_in, is_dashed, is_dotted, first_place, as_place, noon_in, second_in, infer_timestamp, number, refusal};
+ghost use Rattle.std.specs.Prelude.{◌≡◌, ◌+◌, ◌-◌, ◌≤◌, ◌<◌, ℕ, Bool, IfSome, length, get_or};
+ghost use Rattle.timestamp.specs.Dates.{fits as fitsByte, has_shape, digit_before, two as twoDigits, date_of, moment_of, moment_in, is_dashed, is_dotted, first_place, noon_in, second_in, infer_timestamp, number, refusal};
 
-use calendar::{Date, Days};
-use seconds::SecondRead;
+use calendar::Date;
 
-#[derive(Clone, Copy)]
-enum Place {
-    At(usize),
-    Nothing,
-}
-
-#[derive(Clone, Copy)]
-pub enum Inferred {
-    Timestamp(f64),
-    Nothing,
+#[derive(Debug, Clone, Copy, PartialEq, Eq)]
+pub enum InferError {
     NotUtf8,
-}
-
-fn is_digit(b: u8) -> bool
-    ensures { result ≡ is_digit b }
-{
-    (48 <= b) & (b <= 57)
 }
 
 // Whether b stands where the shape has p: '0' is any digit, another byte is itself.
 fn fits(p: u8, b: u8) -> bool
     ensures { result ≡ fitsByte p b }
 {
-    (b == p) | (p == 48) & ((48 <= b) & (b <= 57))
+    b == p || p == b'0' && b.is_ascii_digit()
 }
 
 // Whether s begins with the shape.
+#[tactic(auto, using(crate::proofs::Shapes::shape_end, crate::proofs::Shapes::shape_short, crate::proofs::Shapes::shape_other, crate::proofs::Shapes::shape_next))]
 fn has_shape(shape: &[u8], s: &[u8]) -> bool
     ensures { result ≡ has_shape shape.now s.now }
 {
-    let mut i = 0;
-    while i < shape.len() {
-        if s.len() <= i {
+    for (i, p) in shape.iter().enumerate() {
+        if s.len() <= i || !fits(*p, s[i]) {
             return false;
         }
-        if !fits(shape[i], s[i]) {
-            return false;
-        }
-        i += 1;
     }
     true
 }
@@ -56,14 +35,7 @@ fn has_shape(shape: &[u8], s: &[u8]) -> bool
 fn digit(s: &[u8], at: usize) -> u32
     ensures { (result ≡ get_or s.now at 0 - 48) × (result < 256) }
 {
-    if s.len() <= at {
-        return 0;
-    }
-    let b = s[at];
-    if b < 48 {
-        return 0;
-    }
-    (b - 48) as u32
+    u32::from(s.get(at).copied().unwrap_or(0).saturating_sub(b'0'))
 }
 
 fn two(s: &[u8], at: usize) -> u32
@@ -74,6 +46,7 @@ fn two(s: &[u8], at: usize) -> u32
 }
 
 // The date at the front of s, in either shape.
+#[tactic(auto, using(crate::proofs::Shapes::date_is))]
 fn date_of(s: &[u8]) -> Date
     ensures { result ≡ date_of s.now }
 {
@@ -84,56 +57,45 @@ fn date_of(s: &[u8]) -> Date
 }
 
 // The second of the moment; Nothing where there is no such moment.
-#[tactic(auto, using(crate::proofs::Moments::no_hour, crate::proofs::Moments::no_minute))]
-fn moment(date: Date, hour: u32, minute: u32) -> SecondRead
-    ensures { result ≡ as_second (moment_of date hour minute) }
+#[tactic(auto, using(crate::proofs::Moments::no_date, crate::proofs::Moments::no_hour, crate::proofs::Moments::no_minute, crate::proofs::Moments::the_moment))]
+fn moment(date: Date, hour: u32, minute: u32) -> Option<u64>
+    ensures { result ≡ moment_of date hour minute }
 {
-    let Days::Count(days) = calendar::days_of(date) else {
-        return SecondRead::Nothing;
+    let Some(days) = calendar::days_of(date) else {
+        return None;
     };
-    if 23 < hour {
-        return SecondRead::Nothing;
+    if 23 < hour || 59 < minute {
+        return None;
     }
-    if 59 < minute {
-        return SecondRead::Nothing;
-    }
-    SecondRead::Second(days * 86400 + (hour * 3600 + minute * 60) as u64)
+    Some(days * 86400 + u64::from(hour * 3600 + minute * 60))
 }
 
-fn moment_in(s: &[u8]) -> SecondRead
-    ensures { result ≡ as_second (moment_in s.now) }
+#[tactic(auto, using(crate::proofs::Moments::moment_is))]
+fn moment_in(s: &[u8]) -> Option<u64>
+    ensures { result ≡ moment_in s.now }
 {
     moment(date_of(s), two(s, 11), two(s, 13))
 }
 
-#[tactic(auto, using(crate::proofs::Shapes::none_before))]
+#[tactic(auto, using(crate::proofs::Shapes::none_before, crate::proofs::Shapes::one_before))]
 fn digit_before(path: &[u8], i: usize) -> bool
     requires { i ≤ length path.now }
     ensures { result ≡ digit_before path.now i }
 {
-    if i == 0 {
-        return false;
-    }
-    is_digit(path[i - 1])
+    i > 0 && path[i - 1].is_ascii_digit()
 }
 
+#[tactic(auto, using(crate::proofs::Paths::preceded, crate::proofs::Paths::unshaped, crate::proofs::Paths::a_moment, crate::proofs::Paths::no_moment))]
 fn is_dashed(path: &[u8], i: usize) -> bool
     requires { i ≤ length path.now }
     ensures { result ≡ is_dashed path.now i }
 {
-    if digit_before(path, i) {
-        return false;
-    }
-    let s = &path[i..];
-    if !has_shape(b"0000-00-00-0000", s) {
-        return false;
-    }
-    match moment_in(s) {
-        SecondRead::Second(_) => true,
-        SecondRead::Nothing => false,
-    }
+    !digit_before(path, i)
+        && has_shape(b"0000-00-00-0000", &path[i..])
+        && matches!(moment_in(&path[i..]), Some(_))
 }
 
+#[tactic(auto, using(crate::proofs::Paths::is_dotted_lem))]
 fn is_dotted(path: &[u8], i: usize) -> bool
     requires { i ≤ length path.now }
     ensures { result ≡ is_dotted path.now i }
@@ -141,59 +103,50 @@ fn is_dotted(path: &[u8], i: usize) -> bool
     has_shape(b"0000.00.00", &path[i..])
 }
 
-fn dashed_place(path: &[u8]) -> Place
-    ensures { result ≡ as_place (first_place (is_dashed path.now) path.now) }
+// The first place of the path at which the test holds.
+fn first_place<F: Fn(usize) -> bool>(path: &[u8], test: F) -> Option<usize>
+    requires { (i : ℕ) → i < length path.now → F.pre test i }
+    ensures within { IfSome result (λ i. i < length path.now) }
+    ensures first { (p : ℕ → Bool) → ((i : ℕ) (b : Bool) → i < length path.now → F.post test i b → b ≡ p i) → result ≡ first_place p path.now }
 {
-    let mut i = 0;
-    while i < path.len() {
-        if is_dashed(path, i) {
-            return Place::At(i);
+    for i in 0..path.len() {
+        if test(i) {
+            return Some(i);
         }
-        i += 1;
     }
-    Place::Nothing
-}
-
-fn dotted_place(path: &[u8]) -> Place
-    ensures { result ≡ as_place (first_place (is_dotted path.now) path.now) }
-{
-    let mut i = 0;
-    while i < path.len() {
-        if is_dotted(path, i) {
-            return Place::At(i);
-        }
-        i += 1;
-    }
-    Place::Nothing
+    None
 }
 
 // A date with dots counts by its shape: where it is no date, the search does not go on.
-fn noon_in(path: &[u8]) -> SecondRead
-    ensures { result ≡ as_second (noon_in path.now) }
+#[tactic(auto, using(crate::proofs::Paths::no_noon, crate::proofs::Paths::noon_at_lem))]
+fn noon_in(path: &[u8]) -> Option<u64>
+    ensures { result ≡ noon_in path.now }
 {
-    let Place::At(i) = dotted_place(path) else {
-        return SecondRead::Nothing;
+    let Some(i) = first_place(path, |i| is_dotted(path, i)) else {
+        return None;
     };
     moment(date_of(&path[i..]), 12, 0)
 }
 
-fn second_in(path: &[u8]) -> SecondRead
-    ensures { result ≡ as_second (second_in path.now) }
+#[tactic(auto, using(crate::proofs::Paths::by_dots, crate::proofs::Paths::by_dashes))]
+fn second_in(path: &[u8]) -> Option<u64>
+    ensures { result ≡ second_in path.now }
 {
-    let Place::At(i) = dashed_place(path) else {
+    let Some(i) = first_place(path, |i| is_dashed(path, i)) else {
         return noon_in(path);
     };
     moment_in(&path[i..])
 }
 
-pub fn infer_timestamp_from_path(path: &[u8]) -> Inferred
+#[tactic(auto, using(crate::proofs::Paths::unreadable, crate::proofs::Paths::none_named, crate::proofs::Paths::one_named, crate::proofs::Paths::refused, crate::proofs::Paths::answered))]
+pub fn infer_timestamp_from_path(path: &[u8]) -> Result<Option<f64>, InferError>
     ensures { (result ≡ infer_timestamp path.now) × (number result ≡ refusal path.now) }
 {
     if !utf8::is_readable(path) {
-        return Inferred::NotUtf8;
+        return Err(InferError::NotUtf8);
     }
-    let SecondRead::Second(o) = second_in(path) else {
-        return Inferred::Nothing;
+    let Some(o) = second_in(path) else {
+        return Ok(None);
     };
-    Inferred::Timestamp(seconds::timestamp_of(o))
+    Ok(Some(seconds::timestamp_of(o)))
 }

@@ -10,12 +10,6 @@ loop-start-init c = search (laws, rules)
 pub next_word-requires : goal.next_word-requires
 next_word-requires c = search (laws, rules)
 
-pub enum_known-start : goal.enum_known-start
-enum_known-start c = search (laws, rules)
-
-pub enum_told-1 : goal.enum_told-1
-enum_told-1 c = search (laws, rules)
-
 pub returns-in_default : goal.returns-in_default
 returns-in_default c = search (laws, rules)
 

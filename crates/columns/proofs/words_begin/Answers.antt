@@ -10,20 +10,8 @@ name-init c = search (laws, rules)
 pub next_word-requires : goal.next_word-requires
 next_word-requires c = search (laws, rules)
 
-pub enum_known-a : goal.enum_known-a
-enum_known-a c = search (laws, rules)
-
-pub enum_told-1 : goal.enum_told-1
-enum_told-1 c = search (laws, rules)
-
 pub next_word-requires-in-name : goal.next_word-requires-in-name
 next_word-requires-in-name c = search (laws, rules)
-
-pub enum_known-c : goal.enum_known-c
-enum_known-c c = search (laws, rules)
-
-pub enum_told-in_default-next_word : goal.enum_told-in_default-next_word
-enum_told-in_default-next_word c = search (laws, rules)
 
 pub slice_bounds-same-count : goal.slice_bounds-same-count
 slice_bounds-same-count c = search (laws, rules)

@@ -1,5 +1,5 @@
 use mathlib.Core.Path.{◌≡◌}
-use Prim.Native.Nat.{◌+◌, ◌-◌, ◌≤◌}
+use Prim.Native.Nat.{◌+◌, ◌≤◌}
 use lib.ListN.{length, drop}
 use Rattle.decimal.specs.Decimal.{behind}
 use Rattle.ipv4.specs.Parts.{before}
@@ -7,11 +7,6 @@ use Rattle.ipv4.proofs.octet.Given as goal
 
 abbrev pub invariant-loop-i : goal.invariant-loop-i
 invariant-loop-i l =
-    (l.at ≤ l.i)
-    × (l.i ≤ length l.s)
-    × (l.v ≤ 255)
+    (l.v ≤ 255)
     × (l.at + length (before 46 (drop l.at l.s)) ≡ l.i + length (before 46 (drop l.i l.s)))
     × (behind 0 (before 46 (drop l.at l.s)) ≡ behind l.v (before 46 (drop l.i l.s)))
-
-abbrev pub decreases-loop-i : goal.decreases-loop-i
-decreases-loop-i l = length l.s - l.i

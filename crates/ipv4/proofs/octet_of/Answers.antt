@@ -1,26 +1,18 @@
-use borrow.Author.Rules.{rules}
-use Rattle.ipv4.proofs.Ipv4.{octet_empty, octet_long, octet_zero, octet_one, octet_some}
+use Rattle.std.proofs.Common.{arith}
+use Rattle.ipv4.proofs.Ipv4.{octet_count, octet_zero, octet_one, octet_some}
 use Rattle.ipv4.proofs.octet_of.Goals as goal
 
-ruleset laws = (octet_empty, octet_long, octet_zero, octet_one, octet_some)
+pub returns-in-1 : goal.returns-in-1
+returns-in-1 c = octet_one _ _ _ _ c.requires.0 c.requires.2 c.requires.3 (λ e. omega arith) (omega arith) (omega arith)
 
-pub overflow_sub-n : goal.overflow_sub-n
-overflow_sub-n c = search (laws, rules)
+pub returns-in-2-to-3 : goal.returns-in-2-to-3
+returns-in-2-to-3 c = octet_some _ _ _ _ c.requires.0 c.requires.2 c.requires.3 (λ e. omega arith) (omega arith) (omega arith) (λ e. omega arith)
 
-pub returns-then-n-eq0 : goal.returns-then-n-eq0
-returns-then-n-eq0 c = search (laws, rules)
+pub returns-in_default : goal.returns-in_default
+returns-in_default c = octet_count _ _ _ _ c.requires.0 c.requires.2 c.requires.3 (λ e. omega arith) (λ a b. omega arith)
 
-pub returns-then-n-gt3 : goal.returns-then-n-gt3
-returns-then-n-gt3 c = search (laws, rules)
+pub returns-in_default-2 : goal.returns-in_default-2
+returns-in_default-2 c = octet_zero _ _ _ _ c.requires.0 c.requires.2 c.requires.3 (omega arith) (omega arith)
 
-pub bounds-s-at : goal.bounds-s-at
-bounds-s-at c = search (laws, rules)
-
-pub returns-then-zero : goal.returns-then-zero
-returns-then-zero c = search (laws, rules)
-
-pub returns-else-zero : goal.returns-else-zero
-returns-else-zero c = search (laws, rules)
-
-pub returns-else-n-gt1 : goal.returns-else-n-gt1
-returns-else-n-gt1 c = search (laws, rules)
+pub returns-in_default-3 : goal.returns-in_default-3
+returns-in_default-3 c = octet_count _ _ _ _ c.requires.0 c.requires.2 c.requires.3 (λ e. omega arith) (λ a b. omega arith)

@@ -1,5 +1,5 @@
 use mathlib.Core.Path.{◌≡◌}
-use Prim.Native.Nat.{◌^◌, ◌-◌, ◌<◌, ◌≤◌}
+use Prim.Native.Nat.{◌^◌, ◌<◌, ◌≤◌}
 use lib.ListN.{length, drop}
 use Rattle.ipv4.specs.Parts.{parts, each}
 use Rattle.ipv4.specs.Ipv4.{octet, ipv4}
@@ -7,7 +7,4 @@ use Rattle.ipv4.proofs.Ipv4.{four_from}
 use Rattle.ipv4.proofs.read_ipv4.Given as goal
 
 abbrev pub invariant-loop-k : goal.invariant-loop-k
-invariant-loop-k l = (l.k ≤ 3) × (l.at ≤ length l.s) × (l.a < 256 ^ l.k) × (ipv4 l.s ≡ four_from l.k l.a (each octet (parts 46 (drop l.at l.s))))
-
-abbrev pub decreases-loop-k : goal.decreases-loop-k
-decreases-loop-k l = 3 - l.k
+invariant-loop-k l = (l.at ≤ length l.s) × (l.a < 256 ^ l._k) × (ipv4 l.s ≡ four_from l._k l.a (each octet (parts 46 (drop l.at l.s))))

@@ -1,23 +1,9 @@
-use borrow.Author.Rules.{rules}
-use Rattle.ipv6.proofs.Sides.{fill_more, fill_n, fill_end}
+use Rattle.std.proofs.Common.{arith}
+use Rattle.ipv6.proofs.Sides.{fill_more, fill_n}
 use Rattle.ipv6.proofs.fill.Goals as goal
 
-ruleset laws = (fill_more, fill_n, fill_end)
-
-pub loop-n-init : goal.loop-n-init
-loop-n-init c = search (laws, rules)
-
-pub push-r-requires : goal.push-r-requires
-push-r-requires c = search (laws, rules)
-
-pub overflow_add-n : goal.overflow_add-n
-overflow_add-n c = search (laws, rules)
-
-pub loop-n-smaller : goal.loop-n-smaller
-loop-n-smaller c = search (laws, rules)
-
 pub loop-n-preserved : goal.loop-n-preserved
-loop-n-preserved c = search (laws, rules)
-
-pub returns : goal.returns
-returns c = search (laws, rules)
+loop-n-preserved c = (
+  fill_n _ _ _ _ c.loop-n.invariant.0 c.loop-n.invariant.1 _ c.push-r.ensures,
+  fill_more _ _ _ _ c.loop-n.invariant.0 c.loop-n.invariant.1 (omega arith) _ c.push-r.ensures,
+)

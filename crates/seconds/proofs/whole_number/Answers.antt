@@ -2,46 +2,36 @@
 -- Assumes nothing.
 use Rattle.std.proofs.Common.{T, sym, subst, arith}
 use lib.Ieee.{binary64, in_unsigned, to_unsigned, of_bits, neg}
-use Rattle.seconds.proofs.Whole.{no_nan, whole_no_nan, exact, not_over, not_under, no, found, other_bits, too_large}
--- what owning an `f64` tells: the format holds it
+use Rattle.seconds.proofs.Whole.{whole_no_nan, not_over, not_under, no, found, other_bits, too_large}
 use Rattle.seconds.proofs.whole_number.Goals as goal
+use Rattle.seconds.proofs.whole_number.Goals.{else-n-le9007199254740992-via-then-n-le9007199254740992+else-x-n, else-n-le9007199254740992-via-else-n-le9007199254740992, else-x-via-then-x+else-x-2, else-x-via-else-x}
 
 pub truncating_f64_to_u64-n-requires : goal.truncating_f64_to_u64-n-requires
 unfolding of_bits neg
 truncating_f64_to_u64-n-requires c = record { lower_bound = subst T (sym c.if-x.true) tt; upper_bound = subst T (sym c.if-x-2.true) tt }
 
-pub int_to_float-back : goal.int_to_float-back
-int_to_float-back c = exact _ c.if-n-le9007199254740992.true
+pub float_to_bits-n : goal.float_to_bits-n
+float_to_bits-n c = whole_no_nan _ c.if-n-le9007199254740992.true
 
-pub float_to_bits-x : goal.float_to_bits-x
-float_to_bits-x c = no_nan _ _ (subst T (sym c.if-x-2.true) tt)
-
-pub float_to_bits-back : goal.float_to_bits-back
-float_to_bits-back c = whole_no_nan _ c.if-n-le9007199254740992.true
-
-pub returns-then-x-back : goal.returns-then-x-back
-returns-then-x-back c =
+pub returns-then-x-n : goal.returns-then-x-n
+returns-then-x-n c =
     found c.args.x c.truncating_f64_to_u64-n.result (subst T (sym c.well_formed.0.1) tt) c.truncating_f64_to_u64-n.ensures
-    c.if-n-le9007199254740992.true (omega arith) c.if-x-back.true
-
-pub returns-else-x-back : goal.returns-else-x-back
-returns-else-x-back c =
-    other_bits c.args.x c.truncating_f64_to_u64-n.result (subst T (sym c.well_formed.0.1) tt) c.truncating_f64_to_u64-n.ensures
-    c.if-x-back.false
+    c.if-n-le9007199254740992.true (omega arith) c.if-x-n.true
 
 pub returns-else-n-le9007199254740992 : goal.returns-else-n-le9007199254740992
 returns-else-n-le9007199254740992 c =
-    too_large c.args.x c.truncating_f64_to_u64-n.result (subst T (sym c.well_formed.0.1) tt) c.truncating_f64_to_u64-n.ensures
-    c.if-n-le9007199254740992.false
-
-pub returns-else-x-2 : goal.returns-else-x-2
-unfolding of_bits neg
-returns-else-x-2 c =
-    let x = c.args.x in
-    sym (no (in_unsigned binary64 64 x) (to_unsigned 64 x) (not_under x c.if-x-2.false))
+    elim c.else-n-le9007199254740992.branch [
+      | else-n-le9007199254740992-via-then-n-le9007199254740992+else-x-n w ↦
+          other_bits c.args.x c.truncating_f64_to_u64-n.result (subst T (sym c.well_formed.0.1) tt) c.truncating_f64_to_u64-n.ensures w.if-x-n.false
+      | else-n-le9007199254740992-via-else-n-le9007199254740992 w ↦
+          too_large c.args.x c.truncating_f64_to_u64-n.result (subst T (sym c.well_formed.0.1) tt) c.truncating_f64_to_u64-n.ensures w.if-n-le9007199254740992.false
+    ]
 
 pub returns-else-x : goal.returns-else-x
 unfolding of_bits neg
 returns-else-x c =
     let x = c.args.x in
-    sym (no (in_unsigned binary64 64 x) (to_unsigned 64 x) (not_over x c.if-x.false))
+    elim c.else-x.branch [
+      | else-x-via-then-x+else-x-2 w ↦ sym (no (in_unsigned binary64 64 x) (to_unsigned 64 x) (not_under x w.if-x-2.false))
+      | else-x-via-else-x w ↦ sym (no (in_unsigned binary64 64 x) (to_unsigned 64 x) (not_over x w.if-x.false))
+    ]
