@@ -1,4 +1,4 @@
 pub mod Lists
+pub mod Parted
 pub mod Queries
 pub mod Record
-pub mod Walk

@@ -3,21 +3,22 @@ use mathlib.Core.Path.{◌≡◌, refl, sym, ap, ◌∙◌}
 use mathlib.Core.List.{List, [], ◌∷◌}
 use mathlib.Core.Logic.{⊎_elim}
 use mathlib.Core.Bool.{Bool, true, false, cond, ◌&&◌, ◌||◌}
-use Prim.Native.Nat.{ℕ, zero, suc, ◌+◌, ◌*◌, ◌/◌, ◌≤◌, ◌<◌, ◌^◌}
-use native.Mathlib.Nat.{add_assoc, add-zero, mul_assoc, mul-one, one-mul, zero-mul, mul-zero, mul-pos, pos_of_ne-zero, ne_of_gt, le-mul_of_pos_right, eq-zero-or-pos, div-lt_iff_lt-mul, le-div_iff_mul-le}
+use Prim.Native.Nat.{ℕ, zero, suc, ◌+◌, ◌*◌, ◌≤◌, ◌<◌, ◌^◌}
+use native.Mathlib.Nat.{add_assoc, add-zero, mul_assoc, mul-one, zero-mul, mul-zero, mul-pos, pos_of_ne-zero, ne_of_gt, le-mul_of_pos_right, eq-zero-or-pos}
 use native.Mathlib.Omega.{arith}
-use mir.Syntax.{w64}
-use mir.Val.{Fits}
-use lib.ListN.{length, get_or, drop, length-append}
-use lib.Seq.{length-take-le}
+use lib.ListN.{length, length-append, length-map}
 use lib.Dec.{eqb, eqb-suc-zero}
 use borrow.Author.Tests.{lt-ltb, le-ltb, ne_eqb, eqb-true, eqb-false}
-use Rattle.aspath.specs.Lists.{fold_map}
-use Rattle.aspath.specs.Record.{Segment, spoilt, segments_of, path, numbers_of}
-use Rattle.aspath.specs.Queries.{segment_route_len, route_len, route_len_answer, choices, variations, empty_set, no_route, variations_answer}
-use Rattle.aspath.specs.declared.RouteLen.TheVariants.{Len}
-use Rattle.aspath.specs.declared.Variations.TheVariants.{Count, TooMany}
-use Rattle.aspath.proofs.Record.{segments_count, path_numbers, unspoilt_path, unspoilt_record, shape_more, shape_end}
+use mir.Syntax.{w64}
+use mir.Val.{Fits}
+use Rattle.std.specs.Prelude.{Some, Ok, Err}
+use Rattle.std.specs.List.{list_any}
+use Rattle.aspath.specs.Lists.{fold_map, sum}
+use Rattle.aspath.specs.Record.{Segment, cut, numbers_of}
+use Rattle.aspath.specs.Queries.{segment_route_len, route_len, choices, variations, empty_set, no_route, variations_answer}
+use Rattle.aspath.specs.declared.VariationsError.TheVariants.{TooMany}
+use Rattle.aspath.proofs.Lists.{fold_step, fold_done}
+use Rattle.aspath.proofs.Record.{cut_kinds, cut_numbers}
 
 segment_small : (k l : ℕ) → segment_route_len k l ≤ 1 + l
 segment_small k l = go (eqb k 0) (eqb k 1)
@@ -34,35 +35,24 @@ route_len_small [] = omega arith
 route_len_small (x ∷ p) =
     simp length-append (omega (arith, segment_small x.kind (length x.numbers), route_len_small p))
 
-module _ (ks ls ns : List ℕ) (s n : ℕ) (sound : spoilt ks ls ns s n ≡ false) where
-  pub numbers_count : length (numbers_of (segments_of ks ls ns s n)) ≡ n
-  numbers_count =
-      ap length (sym (path_numbers ks ls ns s n _ (unspoilt_path ks ls ns s n sound))) ∙ length-take-le n ns (unspoilt_record ks ls ns s n sound).numbers_there
+-- and a path within the limits has few of both
+pub route_len_bound : (ks ls ns : List ℕ) → length ks ≤ 4096 → length ns ≤ 16384 → length ls ≡ length ks → sum ls ≡ length ns
+    → route_len (cut ks ls ns) ≤ 20480
+route_len_bound ks ls ns a b c d =
+    let kinds : length (cut ks ls ns) ≡ length ks = sym (length-map (cut ks ls ns) (λ x. x.kind)) ∙ ap length (cut_kinds ks ls ns (sym c)) in
+    let numbers : length (numbers_of (cut ks ls ns)) ≡ length ns = ap length (cut_numbers ks ls ns (sym c) d) in
+    omega (arith, route_len_small (cut ks ls ns), kinds, numbers)
 
-  pub route_len_bound : route_len (segments_of ks ls ns s n) ≤ 20480
-  route_len_bound =
-      omega (
-        arith,
-        route_len_small (segments_of ks ls ns s n),
-        segments_count ks ls ns s n sound,
-        numbers_count,
-        (unspoilt_record ks ls ns s n sound).few_segments,
-        (unspoilt_record ks ls ns s n sound).few_numbers,
-      )
+-- the length of the routes through one segment more
+module _ (whole left rest : List Segment) (x : Segment) (t v : ℕ) (known : route_len whole ≡ t + route_len left) (first : left ≡ x ∷ rest) (is : v ≡ segment_route_len x.kind (length x.numbers)) where
+  pub route_len_step : route_len whole ≡ t + v + route_len rest
+  route_len_step = fold_step ◌+◌ 0 add_assoc add-zero (λ y. segment_route_len y.kind (length y.numbers)) whole left t known x rest v first is
 
-  -- the length of the routes through one segment more
-  module _ (i t v : ℕ) (known : route_len (segments_of ks ls ns s n) ≡ t + route_len (drop i (segments_of ks ls ns s n))) (h : i < s)
-      (w : v ≡ segment_route_len (get_or ks i 0) (get_or ls i 0)) where
-    pub route_len_more : route_len (segments_of ks ls ns s n) ≡ t + v + route_len (drop (i + 1) (segments_of ks ls ns s n))
-    route_len_more = shape_more ks ls ns s n sound ◌+◌ 0 add_assoc add-zero segment_route_len i t known h v w
+  pub route_len_fits : route_len whole ≤ 20480 → Fits w64 (t + v)
+  route_len_fits small = record { fits = omega (arith, route_len_step) }
 
-    pub route_len_fits : Fits w64 (t + v)
-    route_len_fits = record { fits = omega (arith, route_len_more, route_len_bound) }
-
-  pub route_len_end : (i t : ℕ) → route_len (segments_of ks ls ns s n) ≡ t + route_len (drop i (segments_of ks ls ns s n)) → s ≤ i
-      → Len t ≡ route_len_answer (path ks ls ns s n)
-  route_len_end i t known h =
-      rw (unspoilt_path ks ls ns s n sound) (ap Len (shape_end ks ls ns s n sound ◌+◌ 0 add_assoc add-zero segment_route_len i t known h))
+pub route_len_done : (whole left : List Segment) (t : ℕ) → route_len whole ≡ t + route_len left → left ≡ [] → t ≡ route_len whole
+route_len_done = fold_done ◌+◌ 0 add_assoc add-zero (λ y. segment_route_len y.kind (length y.numbers))
 
 eqb_mul : (a b : ℕ) → eqb a 0 || eqb b 0 ≡ eqb (a * b) 0
 eqb_mul zero b = simp zero-mul
@@ -84,40 +74,32 @@ no_route_lem [] = refl
 no_route_lem (x ∷ p) =
     rw (empty_choice x.kind (length x.numbers), no_route_lem p) (eqb_mul (choices x.kind (length x.numbers)) (variations p))
 
-pub no_variation : (ks ls ns : List ℕ) (s n : ℕ) → spoilt ks ls ns s n ≡ false → (r : Bool) → r ≡ no_route (segments_of ks ls ns s n) → r ≡ true
-    → Count 0 ≡ variations_answer (path ks ls ns s n)
-no_variation ks ls ns s n sound r e t =
-    rw (unspoilt_path ks ls ns s n sound) (simp (eqb-true (variations (segments_of ks ls ns s n)) 0 (sym (no_route_lem (segments_of ks ls ns s n)) ∙ sym e ∙ t)))
+pub no_choice : (p : List Segment) → list_any (λ x. eqb (choices x.kind (length x.numbers)) 0) p ≡ no_route p
+unfolding fold_map
+no_choice [] = refl
+no_choice (x ∷ p) = rw (empty_choice x.kind (length x.numbers), no_choice p)
 
-pub some_variation : (ks ls ns : List ℕ) (s n : ℕ) (r : Bool) → r ≡ no_route (segments_of ks ls ns s n) → r ≡ false → 0 < variations (segments_of ks ls ns s n)
-some_variation ks ls ns s n r e t =
-    pos_of_ne-zero (eqb-false (variations (segments_of ks ls ns s n)) 0 (sym (no_route_lem (segments_of ks ls ns s n)) ∙ sym e ∙ t))
+pub no_variation : (p : List Segment) (r : Bool) → r ≡ no_route p → r ≡ true → Ok 0 ≡ variations_answer (Some p)
+no_variation p r e t = simp (eqb-true (variations p) 0 (sym (no_route_lem p) ∙ sym e ∙ t))
+
+pub some_variation : (p : List Segment) (r : Bool) → r ≡ no_route p → r ≡ false → 0 < variations p
+some_variation p r e t = pos_of_ne-zero (eqb-false (variations p) 0 (sym (no_route_lem p) ∙ sym e ∙ t))
 
 -- the product through one segment more
-module _ (ks ls ns : List ℕ) (s n : ℕ) (sound : spoilt ks ls ns s n ≡ false) (i t : ℕ)
-    (known : variations (segments_of ks ls ns s n) ≡ t * variations (drop i (segments_of ks ls ns s n))) where
-  pub variations_end : s ≤ i → t < 2 ^ 64 → Count t ≡ variations_answer (path ks ls ns s n)
-  variations_end h small =
-      rw (unspoilt_path ks ls ns s n sound) (simp (sym (shape_end ks ls ns s n sound ◌*◌ 1 mul_assoc mul-one choices i t known h), lt-ltb t (2 ^ 64) small))
+module _ (whole left rest : List Segment) (x : Segment) (t v : ℕ) (known : variations whole ≡ t * variations left) (first : left ≡ x ∷ rest) (is : v ≡ choices x.kind (length x.numbers)) where
+  pub variations_step : variations whole ≡ t * v * variations rest
+  variations_step = fold_step ◌*◌ 1 mul_assoc mul-one (λ y. choices y.kind (length y.numbers)) whole left t known x rest v first is
 
-  module _ (v : ℕ) (h : i < s) (w : v ≡ choices (get_or ks i 0) (get_or ls i 0)) where
-    pub variations_more : variations (segments_of ks ls ns s n) ≡ t * v * variations (drop (i + 1) (segments_of ks ls ns s n))
-    variations_more = shape_more ks ls ns s n sound ◌*◌ 1 mul_assoc mul-one choices i t known h v w
+  so_far : 0 < variations whole → t * v ≤ variations whole
+  so_far pos = rw variations_step (⊎_elim (λ z. absurd (omega (arith, rw z at variations_step, mul-zero (t * v)))) (λ z. le-mul_of_pos_right (t * v) z) (eq-zero-or-pos (variations rest)))
 
-    module _ (pos : 0 < variations (segments_of ks ls ns s n)) where
-      so_far : t * v ≤ variations (segments_of ks ls ns s n)
-      so_far = rw variations_more (⊎_elim (λ z. absurd (omega (arith, rw z at variations_more, mul-zero (t * v)))) (λ z. le-mul_of_pos_right (t * v) z) (eq-zero-or-pos (variations (drop (i + 1) (segments_of ks ls ns s n)))))
+  pub variations_more : (p : ℕ) → p ≡ t * v → variations whole ≡ p * variations rest
+  variations_more p same = rw same variations_step
 
-      pub choice_there : 0 < v
-      choice_there = ⊎_elim (λ z. absurd (omega (arith, rw (z, mul-zero, zero-mul) at variations_more))) (λ z. z) (eq-zero-or-pos v)
+  pub variations_over : ¬ (t * v < 2 ^ 64) → 0 < variations whole → Err TooMany ≡ variations_answer (Some whole)
+  variations_over over pos = simp (le-ltb (variations whole) (2 ^ 64) (omega (arith, so_far pos, over)))
 
-      pub variations_fit : t ≤ 18446744073709551615 / v → t * v < 2 ^ 64
-      variations_fit q = omega (arith, (le-div_iff_mul-le {k = v} {x = t} {y = 18446744073709551615} choice_there).0 q)
-
-      pub variations_over : 18446744073709551615 / v < t → TooMany ≡ variations_answer (path ks ls ns s n)
-      variations_over q =
-          rw (unspoilt_path ks ls ns s n sound)
-          (simp (le-ltb (variations (segments_of ks ls ns s n)) (2 ^ 64) (omega (arith, so_far, (div-lt_iff_lt-mul {k = v} {x = 18446744073709551615} {y = t} choice_there).0 q))))
-
-pub variations_start : (p : List Segment) → variations p ≡ 1 * variations p
-variations_start p = sym (one-mul (variations p))
+pub variations_done : (whole left : List Segment) (t : ℕ) → variations whole ≡ t * variations left → left ≡ [] → t < 2 ^ 64 → Ok t ≡ variations_answer (Some whole)
+variations_done whole left t known none small =
+    let is : t ≡ variations whole = fold_done ◌*◌ 1 mul_assoc mul-one (λ y. choices y.kind (length y.numbers)) whole left t known none in
+    simp (← is, lt-ltb t (2 ^ 64) small)

@@ -2,54 +2,15 @@
 use mathlib.Core.Path.{◌≡◌, refl, sym, ap, ◌∙◌}
 use mathlib.Core.List.{List, [], ◌∷◌, ◌++◌}
 use mathlib.Core.Bool.{Bool, true, false, cond, not, ◌||◌}
-use mathlib.Core.Option.{some, none}
-use Prim.Native.Nat.{ℕ, ◌+◌, ◌≤◌, ◌<◌}
+use Rattle.std.specs.Prelude.{Some, None}
+use Prim.Native.Nat.{ℕ, ◌+◌, ◌≤◌}
 use native.Mathlib.Omega.{arith}
-use lib.ListN.{length, get_or, take, drop, length-append, length-map, length-drop, take-append-drop, get_or-map}
-use lib.Seq.{take_at, drop_at, length-take-le, get_or-take}
+use lib.ListN.{length, take, drop, length-append, length-map, length-drop, take-append-drop}
+use lib.Seq.{take_at, drop_at, length-take-le}
 use lib.Dec.{ltb, eqb}
-use borrow.Author.Tests.{lt-ltb, le-ltb, ltb-false, eqb-true, eq-eqb, not-false}
-use Rattle.aspath.proofs.Lists.{fold_more, fold_end}
+use borrow.Author.Tests.{le-ltb, ltb-false, eqb-true, eq-eqb, not-false}
 use Rattle.aspath.specs.Lists.{fold_map, any, sum}
 use Rattle.aspath.specs.Record.{Segment, spoilt, cut, segments_of, path, kinds_of, lengths_of, numbers_of}
-
--- the tests of a record, in the order of the code
-module _ (ks ls ns : List ℕ) (s n : ℕ) where
-  pub many_segments : 4096 < s → true ≡ spoilt ks ls ns s n
-  unfolding spoilt
-  many_segments a = simp (lt-ltb 4096 s a)
-
-  module _ (a : s ≤ 4096) where
-    pub many_numbers : 16384 < n → true ≡ spoilt ks ls ns s n
-    unfolding spoilt
-    many_numbers b = simp (le-ltb 4096 s a, lt-ltb 16384 n b)
-
-    module _ (b : n ≤ 16384) where
-      pub few_kinds : length ks < s → true ≡ spoilt ks ls ns s n
-      unfolding spoilt
-      few_kinds c = simp (le-ltb 4096 s a, le-ltb 16384 n b, lt-ltb (length ks) s c)
-
-      module _ (c : s ≤ length ks) where
-        pub few_lengths : length ls < s → true ≡ spoilt ks ls ns s n
-        unfolding spoilt
-        few_lengths d = simp (le-ltb 4096 s a, le-ltb 16384 n b, le-ltb (length ks) s c, lt-ltb (length ls) s d)
-
-        module _ (d : s ≤ length ls) where
-          pub few_numbers : length ns < n → true ≡ spoilt ks ls ns s n
-          unfolding spoilt
-          few_numbers e = simp (le-ltb 4096 s a, le-ltb 16384 n b, le-ltb (length ks) s c, le-ltb (length ls) s d, lt-ltb (length ns) n e)
-
-          module _ (e : n ≤ length ns) where
-            pub rest_of_test : spoilt ks ls ns s n ≡ any (ltb 3) (take s ks) || not (eqb (sum (take s ls)) n)
-            unfolding spoilt
-            rest_of_test = simp (le-ltb 4096 s a, le-ltb 16384 n b, le-ltb (length ks) s c, le-ltb (length ls) s d, le-ltb (length ns) n e)
-
-            module _ (o : Bool) (f : o ≡ any (ltb 3) (take s ks)) where
-              pub kind_over : o ≡ true → true ≡ spoilt ks ls ns s n
-              kind_over g = sym (rest_of_test ∙ simp (sym f ∙ g))
-
-              pub summed : o ≡ false → (t : ℕ) → t ≡ sum (take s ls) → not (eqb t n) ≡ spoilt ks ls ns s n
-              summed g t h = sym (rest_of_test ∙ simp (sym f ∙ g, ← h))
 
 -- what an unspoilt record keeps to
 pub record Unspoilt (ks ls ns : List ℕ) (s n : ℕ) : Type 0 where
@@ -61,7 +22,7 @@ pub record Unspoilt (ks ls ns : List ℕ) (s n : ℕ) : Type 0 where
   pub kinds_known : any (ltb 3) (take s ks) ≡ false
   pub sums : sum (take s ls) ≡ n
 
-or_none : (a b : Bool) → a || b ≡ false → (a ≡ false) × (b ≡ false)
+pub or_none : (a b : Bool) → a || b ≡ false → (a ≡ false) × (b ≡ false)
 or_none true b e = let z : ◌≡◌ {A = ℕ} 0 1 = cc in absurd (omega arith)
 or_none false b e = (refl, e)
 
@@ -126,12 +87,12 @@ sum_flat [] = refl
 sum_flat (x ∷ p) = rw (length-append, sum_flat p)
 
 -- the record of an unspoilt path is the flat layout of its segments
-module _ (ks ls ns : List ℕ) (s n : ℕ) (p : List Segment) (e : path ks ls ns s n ≡ some p) where
+module _ (ks ls ns : List ℕ) (s n : ℕ) (p : List Segment) (e : path ks ls ns s n ≡ Some p) where
   is_cut : (spoilt ks ls ns s n ≡ false) × (cut (take s ks) (take s ls) (take n ns) ≡ p)
   unfolding path segments_of
   is_cut = go (spoilt ks ls ns s n) refl e
     where
-      go : (t : Bool) → spoilt ks ls ns s n ≡ t → cond t none (some (cut (take s ks) (take s ls) (take n ns))) ≡ some p
+      go : (t : Bool) → spoilt ks ls ns s n ≡ t → cond t None (Some (cut (take s ks) (take s ls) (take n ns))) ≡ Some p
           → (spoilt ks ls ns s n ≡ false) × (cut (take s ks) (take s ls) (take n ns) ≡ p)
       go true f g = let z : ◌≡◌ {A = ℕ} 0 1 = cc in absurd (omega arith)
       go false f g = (f, cc)
@@ -156,7 +117,7 @@ module _ (ks ls ns : List ℕ) (s n : ℕ) (p : List Segment) (e : path ks ls ns
 
 -- the flat layout of segments within the limits is an unspoilt record of them, whatever stands behind it in the lists
 pub flat_path : (p : List Segment) (a b c : List ℕ) → length p ≤ 4096 → length (numbers_of p) ≤ 16384 → any (ltb 3) (kinds_of p) ≡ false
-    → path (kinds_of p ++ a) (lengths_of p ++ b) (numbers_of p ++ c) (length p) (length (numbers_of p)) ≡ some p
+    → path (kinds_of p ++ a) (lengths_of p ++ b) (numbers_of p ++ c) (length p) (length (numbers_of p)) ≡ Some p
 unfolding path spoilt segments_of
 flat_path p a b c h i j =
     simp (
@@ -177,24 +138,16 @@ flat_path p a b c h i j =
     )
 
 -- what a call knows by its test: at a spoilt record
-pub spoilt_path : (ks ls ns : List ℕ) (s n : ℕ) (r : Bool) → r ≡ spoilt ks ls ns s n → r ≡ true → path ks ls ns s n ≡ none
+pub spoilt_path : (ks ls ns : List ℕ) (s n : ℕ) (r : Bool) → r ≡ spoilt ks ls ns s n → r ≡ true → path ks ls ns s n ≡ None
 unfolding path
 spoilt_path ks ls ns s n r e t = simp (sym e ∙ t)
 
--- what a list of segments gives beyond its end
-abbrev pub no_segment : Segment
-no_segment = record { kind = 0; numbers = [] }
-
--- a fold over the kinds and the lengths of segments
-abbrev pub over_shapes : {B : Type 0} → (B → B → B) → B → (ℕ → ℕ → B) → List Segment → B
-over_shapes op u g = fold_map op u (λ x. g x.kind (length x.numbers))
-
--- and at an unspoilt one: its segments, their number, and the kind and the length of each
+-- and at an unspoilt one: its segments, and their number
 pub passed : (ks ls ns : List ℕ) (s n : ℕ) (r : Bool) → r ≡ spoilt ks ls ns s n → r ≡ false → spoilt ks ls ns s n ≡ false
 passed ks ls ns s n r e t = sym e ∙ t
 
 module _ (ks ls ns : List ℕ) (s n : ℕ) (sound : spoilt ks ls ns s n ≡ false) where
-  pub unspoilt_path : path ks ls ns s n ≡ some (segments_of ks ls ns s n)
+  pub unspoilt_path : path ks ls ns s n ≡ Some (segments_of ks ls ns s n)
   unfolding path
   unspoilt_path = simp sound
 
@@ -206,34 +159,10 @@ module _ (ks ls ns : List ℕ) (s n : ℕ) (sound : spoilt ks ls ns s n ≡ fals
       sym (length-map (segments_of ks ls ns s n) (λ x. x.kind)) ∙ ap length (sym (path_kinds ks ls ns s n _ unspoilt_path))
       ∙ length-take-le s ks unspoilt_record.kinds_there
 
-  module _ (i : ℕ) (h : i < s) where
-    pub kind_there : i < length ks
-    kind_there = omega (arith, unspoilt_record.kinds_there)
+  -- the record of it, cut to its counts
+  pub cut_path : path ks ls ns s n ≡ Some (cut (take s ks) (take s ls) (take n ns))
+  unfolding segments_of
+  cut_path = unspoilt_path
 
-    pub length_there : i < length ls
-    length_there = omega (arith, unspoilt_record.lengths_there)
-
-    pub segment_there : i < length (segments_of ks ls ns s n)
-    segment_there = omega (arith, segments_count)
-
-    pub kind_at : (get_or (segments_of ks ls ns s n) i no_segment).kind ≡ get_or ks i 0
-    kind_at =
-        sym (get_or-map (λ x. x.kind) (segments_of ks ls ns s n) i no_segment)
-        ∙ ap (λ l. get_or l i 0) (sym (path_kinds ks ls ns s n _ unspoilt_path)) ∙ get_or-take s ks i 0 h
-
-    pub length_at : length (get_or (segments_of ks ls ns s n) i no_segment).numbers ≡ get_or ls i 0
-    length_at =
-        sym (get_or-map (λ x. length x.numbers) (segments_of ks ls ns s n) i no_segment)
-        ∙ ap (λ l. get_or l i 0) (sym (path_lengths ks ls ns s n _ unspoilt_path)) ∙ get_or-take s ls i 0 h
-
-  -- a fold over the kinds and the lengths of the segments: one more, none left
-  module _ {B : Type 0} (op : B → B → B) (u : B) (assoc : (a b c : B) → op (op a b) c ≡ op a (op b c)) (unit : (a : B) → op a u ≡ a) (g : ℕ → ℕ → B)
-      (i : ℕ) (t : B) (known : over_shapes op u g (segments_of ks ls ns s n) ≡ op t (over_shapes op u g (drop i (segments_of ks ls ns s n)))) where
-    pub shape_more : i < s → (v : B) → v ≡ g (get_or ks i 0) (get_or ls i 0)
-        → over_shapes op u g (segments_of ks ls ns s n) ≡ op (op t v) (over_shapes op u g (drop (i + 1) (segments_of ks ls ns s n)))
-    shape_more h v w =
-        fold_more op u assoc unit (λ x. g x.kind (length x.numbers)) (segments_of ks ls ns s n) i t known no_segment (segment_there i h)
-        ∙ ap (λ z. op (op t z) (over_shapes op u g (drop (i + 1) (segments_of ks ls ns s n)))) (rw (kind_at i h, length_at i h) (sym w))
-
-    pub shape_end : s ≤ i → t ≡ over_shapes op u g (segments_of ks ls ns s n)
-    shape_end h = fold_end op u assoc unit (λ x. g x.kind (length x.numbers)) (segments_of ks ls ns s n) i t known (omega (arith, segments_count))
+  pub taken : (length (take s ks) ≡ s) × (length (take s ls) ≡ s) × (length (take n ns) ≡ n)
+  taken = (length-take-le s ks unspoilt_record.kinds_there, length-take-le s ls unspoilt_record.lengths_there, length-take-le n ns unspoilt_record.numbers_there)

@@ -1,3 +1,4 @@
 pub mod Lists
 pub mod Queries
 pub mod Record
+pub mod Segments

@@ -1,12 +1,10 @@
 -- What the calls on a path answer, said of its segments as aspath.rs says it.
-use Rattle.std.specs.Prelude.{ℕ, ◌^◌, List, Bool, cond, ◌&&◌, length, ltb, eqb}
-use Rattle.std.proofs.Math.Option.{Option, some, none}
+use Rattle.std.specs.Prelude.{ℕ, ◌^◌, List, Bool, cond, ◌&&◌, length, ltb, eqb, Option, Some, None, Result, Ok, Err}
 use Rattle.aspath.specs.Lists.{any, sum_of, product_of}
 use Rattle.aspath.specs.Record.{Segment}
-use Rattle.aspath.specs.declared.RouteLen.{RouteLen}
-use Rattle.aspath.specs.declared.RouteLen.TheVariants.{Len, Spoilt}
-use Rattle.aspath.specs.declared.Variations.{Variations}
-use Rattle.aspath.specs.declared.Variations.TheVariants.{Count, TooMany, Spoilt as SpoiltV}
+use Rattle.aspath.specs.declared.Spoilt.{Spoilt}
+use Rattle.aspath.specs.declared.VariationsError.{VariationsError}
+use Rattle.aspath.specs.declared.VariationsError.TheVariants.{TooMany, Spoilt as SpoiltV}
 
 -- AsPathSegment::route_len, of a kind and a length: a sequence counts its numbers, a set counts 1, a confederation's segment nothing
 abbrev pub segment_route_len : ℕ → ℕ → ℕ
@@ -31,21 +29,25 @@ empty_set k l = eqb k 1 && eqb l 0
 abbrev pub no_route : List Segment → Bool
 no_route = any (λ x. empty_set x.kind (length x.numbers))
 
--- the answers; a spoilt record (nothing) comes first in each
-abbrev pub route_len_answer : Option (List Segment) → RouteLen
-route_len_answer (some p) = Len (route_len p)
-route_len_answer none = Spoilt
+-- the refusal of a spoilt record
+abbrev pub spoilt_record : Spoilt
+spoilt_record = record {}
 
-abbrev pub variations_answer : Option (List Segment) → Variations
-variations_answer (some p) = cond (ltb (variations p) (2 ^ 64)) (Count (variations p)) TooMany
-variations_answer none = SpoiltV
+-- the answers; a spoilt record (nothing) comes first in each
+abbrev pub route_len_answer : Option (List Segment) → Result ℕ Spoilt
+route_len_answer (Some p) = Ok (route_len p)
+route_len_answer None = Err spoilt_record
+
+abbrev pub variations_answer : Option (List Segment) → Result ℕ VariationsError
+variations_answer (Some p) = cond (ltb (variations p) (2 ^ 64)) (Ok (variations p)) (Err TooMany)
+variations_answer None = Err SpoiltV
 
 -- 01's numbers of the refusals; 0 is an answer
-abbrev pub route_len_number : RouteLen → ℕ
-route_len_number (Len n) = 0
-route_len_number Spoilt = 10
+abbrev pub route_len_number : Result ℕ Spoilt → ℕ
+route_len_number (Ok n) = 0
+route_len_number (Err e) = 10
 
-abbrev pub variations_number : Variations → ℕ
-variations_number (Count n) = 0
-variations_number SpoiltV = 10
-variations_number TooMany = 11
+abbrev pub variations_number : Result ℕ VariationsError → ℕ
+variations_number (Ok n) = 0
+variations_number (Err SpoiltV) = 10
+variations_number (Err TooMany) = 11

@@ -1,6 +1,5 @@
 -- The path record (01, Records, Path): kinds, lengths and numbers in three lent lists, of which two counts say how much is used.
-use Rattle.std.specs.Prelude.{ℕ, List, [], ◌∷◌, map, Bool, cond, not, ◌||◌, length, take, drop, ltb, eqb}
-use Rattle.std.proofs.Math.Option.{Option, some, none}
+use Rattle.std.specs.Prelude.{ℕ, List, [], ◌∷◌, map, Bool, cond, not, ◌||◌, length, take, drop, ltb, eqb, Option, Some, None}
 use Rattle.aspath.specs.Lists.{any, sum, concat_of}
 
 -- a segment: its kind (0 AsSequence, 1 AsSet, 2 ConfedSequence, 3 ConfedSet) and its numbers
@@ -27,7 +26,7 @@ segments_of kinds lengths numbers s n = cut (take s kinds) (take s lengths) (tak
 
 -- what a record stands for: its segments, or nothing where it is spoilt
 unfoldable pub path : List ℕ → List ℕ → List ℕ → ℕ → ℕ → Option (List Segment)
-path kinds lengths numbers s n = cond (spoilt kinds lengths numbers s n) none (some (segments_of kinds lengths numbers s n))
+path kinds lengths numbers s n = cond (spoilt kinds lengths numbers s n) None (Some (segments_of kinds lengths numbers s n))
 
 -- the flat layout of a list of segments
 abbrev pub kinds_of : List Segment → List ℕ

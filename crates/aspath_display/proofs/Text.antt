@@ -1,24 +1,21 @@
 -- Laws of texts behind separators, and of a path's text.
-use mathlib.Core.Path.{◌≡◌, ap}
+use mathlib.Core.Path.{◌≡◌, sym, ap, ◌∙◌}
 use mathlib.Core.List.{List, [], ◌∷◌, ◌++◌}
 use mathlib.Core.Bool.{Bool, true, false}
-use Prim.Native.Nat.{ℕ, ◌+◌, ◌*◌, ◌-◌, ◌≤◌, ◌<◌}
+use Prim.Native.Nat.{ℕ, ◌+◌, ◌*◌, ◌≤◌, ◌<◌}
 use native.Mathlib.Numerals.{add-one}
-use native.Mathlib.Nat.{min-le_left}
 use native.Mathlib.Omega.{arith}
-use lib.ListN.{length, get_or, take, drop, length-append, length-take, drop_of_length-le}
-use borrow.Author.Tests.{eq-eqb, ne_eqb, le-leb, lt-leb}
-use mir.Syntax.{w64}
-use mir.Val.{Fits}
+use lib.ListN.{length, get_or, drop, length-append, length-map, drop_of_length-le}
+use borrow.Author.Tests.{le-leb, lt-leb}
 use lib.Seq.{drop-cons}
 use Rattle.decimal_display.specs.Printed.{decimal}
 use Rattle.output.specs.Output.{Written}
 use Rattle.output.proofs.Output.{Left, next_left_lem, none_left, nothing, kept, whole}
-use Rattle.aspath.specs.Record.{spoilt, segments_of, path}
-use Rattle.aspath.proofs.Record.{spoilt_path, unspoilt_path, unspoilt_record, segments_count, kind_at}
-use Rattle.aspath.proofs.Walk.{Place, segment_next, numbers_here, end_small}
+use Rattle.std.specs.Prelude.{Some, Ok, Err}
+use Rattle.aspath.specs.Record.{Segment, cut}
+use Rattle.aspath.proofs.Record.{cut_kinds}
 use Rattle.aspath_display.specs.Display.{lead, separated, segment_text, path_text, Measured, Displayed}
-use Rattle.aspath_display.specs.declared.Shown.TheVariants.{Wrote, TooShort, Spoilt}
+use Rattle.aspath_display.specs.declared.DisplayError.TheVariants.{TooShort}
 
 -- a separator measured and written
 module _ (sep n m most : ℕ) (t : List ℕ) (e : n ≡ length t) (h : n ≤ m) (first : Bool) where
@@ -60,101 +57,70 @@ module _ {A : Type 0} (f : A → List ℕ) (sep : ℕ) (first : Bool) (s : List 
     pub write_end : length s ≤ i → Written t out₀ at₀ out at
     write_end h = none_left (rw (← separated_end h) known)
 
--- a segment's text
-module _ (kind : ℕ) (part : List ℕ) where
-  abbrev set : List ℕ
-  set = (123 ∷ []) ++ separated 44 decimal true part ++ (125 ∷ [])
+-- a segment's text, by its kind's number
+abbrev set : List ℕ → List ℕ
+set part = (123 ∷ []) ++ separated 44 decimal true part ++ (125 ∷ [])
 
-  one_set : kind ≡ 1 → segment_text kind part ≡ set
-  unfolding segment_text
-  one_set e = simp (eq-eqb kind 1 e)
+-- a set's: 1 is an AsSet, 3 a ConfedSet
+pub set_len : (part : List ℕ) (n : ℕ) → Measured (separated 44 decimal true part) 344064 n
+    → Measured (segment_text 1 part) 344066 (2 + n) × Measured (segment_text 3 part) 344066 (2 + n)
+unfolding segment_text
+set_len part n w =
+    let m : Measured (set part) 344066 (2 + n) = record { is = simp length-append (omega (arith, w.is)); small = omega (arith, w.small) } in (m, m)
 
-  three_set : (kind ≡ 1 → ⊥) → kind ≡ 3 → segment_text kind part ≡ set
-  unfolding segment_text
-  three_set n e = simp (ne_eqb kind 1 n, eq-eqb kind 3 e)
+pub sequence_len : (part : List ℕ) (n : ℕ) → Measured (separated 32 decimal true part) 344064 n
+    → Measured (segment_text 0 part) 344066 n × Measured (segment_text 2 part) 344066 n
+unfolding segment_text
+sequence_len part n w =
+    let m : Measured (separated 32 decimal true part) 344066 n = record { is = w.is; small = omega (arith, w.small) } in (m, m)
 
-  no_set : (kind ≡ 1 → ⊥) → (kind ≡ 3 → ⊥) → segment_text kind part ≡ separated 32 decimal true part
-  unfolding segment_text
-  no_set n m = simp (ne_eqb kind 1 n, ne_eqb kind 3 m)
+pub set_written : (part out o : List ℕ) (at a : ℕ) → Written (set part) out at o a
+    → Written (segment_text 1 part) out at o a × Written (segment_text 3 part) out at o a
+unfolding segment_text
+set_written part out o at a w = (w, w)
 
-  set_length : (n : ℕ) → Measured (separated 44 decimal true part) 344064 n → Measured set 344066 (2 + n)
-  set_length n w = record { is = simp length-append (omega (arith, w.is)); small = omega (arith, w.small) }
+pub sequence_written : (part out o : List ℕ) (at a : ℕ) → Written (separated 32 decimal true part) out at o a
+    → Written (segment_text 0 part) out at o a × Written (segment_text 2 part) out at o a
+unfolding segment_text
+sequence_written part out o at a w = (w, w)
 
-  pub one_len : (n : ℕ) → kind ≡ 1 → Measured (separated 44 decimal true part) 344064 n → Measured (segment_text kind part) 344066 (2 + n)
-  one_len n e w = rw (one_set e) (set_length n w)
+-- a path has few segments, so its text is not long
+pub few_items : (ks ls ns : List ℕ) → length ks ≤ 4096 → length ls ≡ length ks → length (cut ks ls ns) * 344067 ≤ 1409298432
+few_items ks ls ns few paired =
+    omega (arith, sym (length-map (cut ks ls ns) (λ x. x.kind)) ∙ ap length (cut_kinds ks ls ns (sym paired)))
 
-  pub three_len : (n : ℕ) → (kind ≡ 1 → ⊥) → kind ≡ 3 → Measured (separated 44 decimal true part) 344064 n → Measured (segment_text kind part) 344066 (2 + n)
-  three_len n d e w = rw (three_set d e) (set_length n w)
-
-  pub sequence_len : (n : ℕ) → (kind ≡ 1 → ⊥) → (kind ≡ 3 → ⊥) → Measured (separated 32 decimal true part) 344064 n → Measured (segment_text kind part) 344066 n
-  sequence_len n d e w = rw (no_set d e) (record { is = w.is; small = omega (arith, w.small) })
-
-  module _ (out o : List ℕ) (at a : ℕ) where
-    pub one_written : kind ≡ 1 → Written set out at o a → Written (segment_text kind part) out at o a
-    one_written e w = rw (one_set e) w
-
-    pub three_written : (kind ≡ 1 → ⊥) → kind ≡ 3 → Written set out at o a → Written (segment_text kind part) out at o a
-    three_written d e w = rw (three_set d e) w
-
-    pub sequence_written : (kind ≡ 1 → ⊥) → (kind ≡ 3 → ⊥) → Written (separated 32 decimal true part) out at o a → Written (segment_text kind part) out at o a
-    sequence_written d e w = rw (no_set d e) w
-
--- a path's text through one segment more, and through no more
-module _ (ks ls ns : List ℕ) (s n : ℕ) (sound : spoilt ks ls ns s n ≡ false) (i from : ℕ) (first : Bool) (here : Place ks ls ns s n i from) where
-  text_next : i < s → path_text first (drop i (segments_of ks ls ns s n))
-      ≡ lead first 32 ++ segment_text (get_or ks i 0) (take (from + get_or ls i 0 - from) (drop from ns)) ++ path_text false (drop (i + 1) (segments_of ks ls ns s n))
+-- a path's text through one segment more
+module _ (first : Bool) (left rest : List Segment) (x : Segment) (is : left ≡ x ∷ rest) where
+  text_first : path_text first left ≡ lead first 32 ++ segment_text x.kind x.numbers ++ path_text false rest
   unfolding separated
-  text_next h =
-      rw (numbers_here ks ls ns s n sound i from here h, ← kind_at ks ls ns s n sound i h) (ap (path_text first) (segment_next ks ls ns s n sound i from here h))
+  text_first = rw is
 
-  text_end : s ≤ i → path_text first (drop i (segments_of ks ls ns s n)) ≡ []
+  pub item_step : (t : List ℕ) (m v : ℕ) → length t ≡ m + length (path_text first left) → Measured (lead first 32 ++ segment_text x.kind x.numbers) 344067 v
+      → length t ≡ m + v + length (path_text false rest)
+  item_step t m v known w =
+      omega (arith, w.is, ap length text_first, length-append (lead first 32 ++ segment_text x.kind x.numbers) (path_text false rest))
+
+  pub item_room : (m v : ℕ) → m + length left * 344067 ≤ 1409298432 → v ≤ 344067 → m + v + length rest * 344067 ≤ 1409298432
+  item_room m v known small = omega (arith, ap length is)
+
+  pub written_step : (t out₀ out o : List ℕ) (at₀ at a : ℕ) → Left t out₀ at₀ (path_text first left) out at
+      → Written (lead first 32 ++ segment_text x.kind x.numbers) out at o a → Left t out₀ at₀ (path_text false rest) o a
+  written_step t out₀ out o at₀ at a known w = next_left_lem (rw text_first at known) w
+
+-- and through no more
+module _ (first : Bool) (left : List Segment) (none : left ≡ []) where
+  pub text_done : (t : List ℕ) (m : ℕ) → length t ≡ m + length (path_text first left) → m ≡ length t
   unfolding separated
-  text_end h = ap (path_text first) (drop_of_length-le (segments_of ks ls ns s n) {i = i} (omega (arith, segments_count ks ls ns s n sound)))
+  text_done t m known = omega (arith, rw none at known)
 
-  pub part_small : i < s → length (take (from + get_or ls i 0 - from) (drop from ns)) ≤ 16384
-  part_small h =
-      omega (
-        arith,
-        length-take (from + get_or ls i 0 - from) (drop from ns),
-        min-le_left (from + get_or ls i 0 - from) (length (drop from ns)),
-        end_small ks ls ns s n sound i from here h,
-      )
-
-  module _ (t : List ℕ) (m : ℕ) (known : length t ≡ m + length (path_text first (drop i (segments_of ks ls ns s n)))) where
-    pub item_more : i < s → (v : ℕ) → Measured (lead first 32 ++ segment_text (get_or ks i 0) (take (from + get_or ls i 0 - from) (drop from ns))) 344067 v
-        → length t ≡ m + v + length (path_text false (drop (i + 1) (segments_of ks ls ns s n)))
-    item_more h v w = omega (arith, w.is, simp length-append at (ap length (text_next h)), length-append (lead first 32) (segment_text (get_or ks i 0) (take (from + get_or ls i 0 - from) (drop from ns))))
-
-    pub item_end : s ≤ i → m ≡ length t
-    item_end h = omega (arith, ap length (text_end h))
-
-  pub item_fits : (m v : ℕ) → m ≤ i * 344067 → i < s → v ≤ 344067 → Fits w64 (m + v)
-  item_fits m v h j l = record { fits = omega (arith, (unspoilt_record ks ls ns s n sound).few_segments) }
-
-  module _ (t out₀ out : List ℕ) (at₀ at : ℕ) (known : Left t out₀ at₀ (path_text first (drop i (segments_of ks ls ns s n))) out at) where
-    pub item_written : i < s → (o : List ℕ) (a : ℕ) → Written (lead first 32 ++ segment_text (get_or ks i 0) (take (from + get_or ls i 0 - from) (drop from ns))) out at o a
-        → Left t out₀ at₀ (path_text false (drop (i + 1) (segments_of ks ls ns s n))) o a
-    item_written h o a w = next_left_lem (rw (← text_next h) known) w
-
-    pub items_end : s ≤ i → Written t out₀ at₀ out at
-    items_end h = none_left (rw (← text_end h) known)
+  pub written_done : (t out₀ out : List ℕ) (at₀ at : ℕ) → Left t out₀ at₀ (path_text first left) out at → Written t out₀ at₀ out at
+  unfolding separated
+  written_done t out₀ out at₀ at known = none_left (rw none at known)
 
 -- what the call answers and leaves
-pub shown_spoilt : (ks ls ns : List ℕ) (s n : ℕ) (out : List ℕ) (r : Bool) → r ≡ spoilt ks ls ns s n → r ≡ true → Displayed (path ks ls ns s n) out Spoilt out
-shown_spoilt ks ls ns s n out r e t = record { told = rw (spoilt_path ks ls ns s n r e t); left = rw (spoilt_path ks ls ns s n r e t) }
+module _ (p : List Segment) (out : List ℕ) (m : ℕ) (e : m ≡ length (path_text true p)) where
+  pub shown_short : length out < m → Displayed (Some p) out (Err TooShort) out
+  shown_short h = record { told = simp (← e, lt-leb m (length out) h); left = kept (path_text true p) out m e h }
 
-module _ (ks ls ns : List ℕ) (s n : ℕ) (out : List ℕ) (sound : spoilt ks ls ns s n ≡ false) (m : ℕ) (e : m ≡ length (path_text true (segments_of ks ls ns s n))) where
-  pub shown_short : length out < m → Displayed (path ks ls ns s n) out TooShort out
-  shown_short h =
-      record {
-        told = rw (unspoilt_path ks ls ns s n sound) (simp (← e, lt-leb m (length out) h));
-        left = rw (unspoilt_path ks ls ns s n sound) (kept (path_text true (segments_of ks ls ns s n)) out m e h);
-      }
-
-  pub shown_written : m ≤ length out → (new : List ℕ) (a : ℕ) → Written (path_text true (segments_of ks ls ns s n)) out 0 new a
-      → Displayed (path ks ls ns s n) out (Wrote m) new
-  shown_written h new a w =
-      record {
-        told = rw (unspoilt_path ks ls ns s n sound) (simp (← e, le-leb m (length out) h));
-        left = rw (unspoilt_path ks ls ns s n sound) (whole (path_text true (segments_of ks ls ns s n)) out m e new a h w);
-      }
+  pub shown_written : m ≤ length out → (new : List ℕ) (a : ℕ) → Written (path_text true p) out 0 new a → Displayed (Some p) out (Ok m) new
+  shown_written h new a w = record { told = simp (← e, le-leb m (length out) h); left = whole (path_text true p) out m e new a h w }

@@ -1,11 +1,10 @@
 -- Display of a path (impl Display for AsPath).
-use Rattle.std.specs.Prelude.{ℕ, ◌≤◌, ◌≡◌, List, [], ◌∷◌, ◌++◌, Bool, true, false, cond, ◌||◌, length, leb, eqb}
-use Rattle.std.proofs.Math.Option.{Option, some, none}
+use Rattle.std.specs.Prelude.{ℕ, ◌≤◌, ◌≡◌, List, [], ◌∷◌, ◌++◌, Bool, true, false, cond, ◌||◌, length, leb, eqb, Option, Some, None, Result, Ok, Err}
 use Rattle.decimal_display.specs.Printed.{decimal}
 use Rattle.output.specs.Output.{front}
 use Rattle.aspath.specs.Record.{Segment}
-use Rattle.aspath_display.specs.declared.Shown.{Shown}
-use Rattle.aspath_display.specs.declared.Shown.TheVariants.{Wrote, TooShort, Spoilt}
+use Rattle.aspath_display.specs.declared.DisplayError.{DisplayError}
+use Rattle.aspath_display.specs.declared.DisplayError.TheVariants.{TooShort, Spoilt}
 
 -- the byte between two texts: none before the first
 abbrev pub lead : Bool → ℕ → List ℕ
@@ -30,21 +29,21 @@ pub record Measured (text : List ℕ) (most n : ℕ) : Type 0 where
   pub small : n ≤ most
 
 -- the answer for so many bytes of room: 01's order, 10, then 9
-abbrev pub shown_answer : Option (List Segment) → List ℕ → Shown
-shown_answer none out = Spoilt
-shown_answer (some p) out = cond (leb (length (path_text true p)) (length out)) (Wrote (length (path_text true p))) TooShort
+abbrev pub shown_answer : Option (List Segment) → List ℕ → Result ℕ DisplayError
+shown_answer None out = Err Spoilt
+shown_answer (Some p) out = cond (leb (length (path_text true p)) (length out)) (Ok (length (path_text true p))) (Err TooShort)
 
 -- the bytes afterwards: where they suffice, the text, and behind it what stood there
 abbrev pub shown_bytes : Option (List Segment) → List ℕ → List ℕ
-shown_bytes none out = out
-shown_bytes (some p) out = front (path_text true p) out
+shown_bytes None out = out
+shown_bytes (Some p) out = front (path_text true p) out
 
-pub record Displayed (p : Option (List Segment)) (out : List ℕ) (r : Shown) (new : List ℕ) : Type 0 where
+pub record Displayed (p : Option (List Segment)) (out : List ℕ) (r : Result ℕ DisplayError) (new : List ℕ) : Type 0 where
   pub told : r ≡ shown_answer p out
   pub left : new ≡ shown_bytes p out
 
 -- 01's numbers of the refusals; 0 is an answer
-abbrev pub shown_number : Shown → ℕ
-shown_number (Wrote n) = 0
-shown_number TooShort = 9
-shown_number Spoilt = 10
+abbrev pub shown_number : Result ℕ DisplayError → ℕ
+shown_number (Ok n) = 0
+shown_number (Err TooShort) = 9
+shown_number (Err Spoilt) = 10

@@ -1,24 +1,35 @@
 // A path printed as the Rust prints it.
 #![tactic(auto)]
 
-ghost use Rattle.std.specs.Prelude.{◌≡◌, true, false, [], ◌∷◌, ◌++◌, ◌≤◌, length};
+ghost use Rattle.std.specs.Prelude.{◌≡◌, true, [], ◌∷◌, ◌++◌, ◌≤◌, length};
 ghost use Rattle.decimal_display.specs.Printed.{decimal};
 ghost use Rattle.output.specs.Output.{Written};
-ghost use Rattle.aspath.specs.Record.{spoilt, segments_of, path};
+ghost use Rattle.aspath.specs.Segments.{kind_number, segments_in, path_of};
 ghost use Rattle.aspath_display.specs.Display.{lead, separated, segment_text, path_text, Measured, Displayed};
 
-#[derive(Clone, Copy)]
-pub enum Shown {
-    Wrote(usize),
+use aspath::{AsPath, PathRecord, Segment, SegmentKind, Spoilt};
+
+#[derive(Debug, Clone, Copy, PartialEq, Eq)]
+pub enum DisplayError {
     TooShort,
     Spoilt,
+}
+
+impl From<Spoilt> for DisplayError {
+    ghost use Rattle.aspath_display.specs.declared.DisplayError.TheVariants.{Spoilt};
+
+    ghost from_gives = { λ _ e. e ≡ Spoilt };
+
+    fn from(_spoilt: Spoilt) -> DisplayError {
+        DisplayError::Spoilt
+    }
 }
 
 // A number behind its separator, of which the first has none: how long it is, and written.
 pub fn number_len(first: bool, sep: u8, a: u32) -> usize
     ensures { Measured (lead first sep ++ decimal a) 21 result }
 {
-    let n = decimal_display::decimal_len(a as u64);
+    let n = decimal_display::decimal_len(u64::from(a));
     if first { n } else { 1 + n }
 }
 
@@ -45,11 +56,9 @@ fn numbers_len(numbers: &[u32], sep: u8) -> usize
 {
     let mut len = 0;
     let mut first = true;
-    let mut i = 0;
-    while i < numbers.len() {
-        len += number_len(first, sep, numbers[i]);
+    for number in numbers {
+        len += number_len(first, sep, *number);
         first = false;
-        i += 1;
     }
     len
 }
@@ -59,26 +68,20 @@ pub fn write_numbers(numbers: &[u32], sep: u8, out: &mut [u8], at: usize) -> usi
 {
     let mut place = at;
     let mut first = true;
-    let mut i = 0;
-    while i < numbers.len() {
-        place = write_number(first, sep, numbers[i], out, place);
+    for number in numbers {
+        place = write_number(first, sep, *number, out, place);
         first = false;
-        i += 1;
     }
     place
 }
 
-fn segment_len(kind: u8, part: &[u32]) -> usize
-    requires { length part.now ≤ 16384 }
-    ensures { Measured (segment_text kind part.now) 344066 result }
+fn segment_len(segment: Segment) -> usize
+    ensures { Measured (segment_text (kind_number segment.entry.kind) segment.entry.numbers.now) 344066 result }
 {
-    if kind == 1 {
-        return 2 + numbers_len(part, b',');
+    match segment.kind {
+        SegmentKind::AsSet | SegmentKind::ConfedSet => 2 + numbers_len(segment.numbers, b','),
+        SegmentKind::AsSequence | SegmentKind::ConfedSequence => numbers_len(segment.numbers, b' '),
     }
-    if kind == 3 {
-        return 2 + numbers_len(part, b',');
-    }
-    numbers_len(part, b' ')
 }
 
 fn write_set(part: &[u32], out: &mut [u8], at: usize) -> usize
@@ -89,94 +92,65 @@ fn write_set(part: &[u32], out: &mut [u8], at: usize) -> usize
     output::write_byte(b'}', out, behind)
 }
 
-fn write_segment(kind: u8, part: &[u32], out: &mut [u8], at: usize) -> usize
-    ensures { Written (segment_text kind part.now) out.old at out.new result }
+fn write_segment(segment: Segment, out: &mut [u8], at: usize) -> usize
+    ensures { Written (segment_text (kind_number segment.entry.kind) segment.entry.numbers.now) out.old at out.new result }
 {
-    if kind == 1 {
-        return write_set(part, out, at);
+    let numbers = segment.numbers;
+    match segment.kind {
+        SegmentKind::AsSet | SegmentKind::ConfedSet => write_set(numbers, out, at),
+        SegmentKind::AsSequence | SegmentKind::ConfedSequence => {
+            write_numbers(numbers, b' ', out, at)
+        }
     }
-    if kind == 3 {
-        return write_set(part, out, at);
-    }
-    write_numbers(part, b' ', out, at)
 }
 
 // A segment behind its separator, of which the first has none.
-fn item_len(first: bool, kind: u8, part: &[u32]) -> usize
-    requires { length part.now ≤ 16384 }
-    ensures { Measured (lead first 32 ++ segment_text kind part.now) 344067 result }
+fn item_len(first: bool, segment: Segment) -> usize
+    ensures { Measured (lead first 32 ++ segment_text (kind_number segment.entry.kind) segment.entry.numbers.now) 344067 result }
 {
-    let len = segment_len(kind, part);
+    let len = segment_len(segment);
     if first { len } else { 1 + len }
 }
 
-fn write_item(first: bool, kind: u8, part: &[u32], out: &mut [u8], at: usize) -> usize
-    ensures { Written (lead first 32 ++ segment_text kind part.now) out.old at out.new result }
+fn write_item(first: bool, segment: Segment, out: &mut [u8], at: usize) -> usize
+    ensures { Written (lead first 32 ++ segment_text (kind_number segment.entry.kind) segment.entry.numbers.now) out.old at out.new result }
 {
     let behind = write_lead(first, b' ', out, at);
-    write_segment(kind, part, out, behind)
+    write_segment(segment, out, behind)
 }
 
-fn path_len(kinds: &[u8], lengths: &[u32], numbers: &[u32], segments: usize, count: usize) -> usize
-    requires { spoilt kinds.now lengths.now numbers.now segments count ≡ false }
-    ensures { result ≡ length (path_text true (segments_of kinds.now lengths.now numbers.now segments count)) }
+fn path_len(path: AsPath) -> usize
+    ensures { result ≡ length (path_text true (segments_in path.entry)) }
 {
     let mut len = 0;
     let mut first = true;
-    let mut from = 0;
-    let mut i = 0;
-    while i < segments {
-        let end = from + lengths[i] as usize;
-        len += item_len(first, kinds[i], &numbers[from..end]);
+    for segment in path.segments() {
+        len += item_len(first, segment);
         first = false;
-        from = end;
-        i += 1;
     }
     len
 }
 
-fn write_path(
-    kinds: &[u8],
-    lengths: &[u32],
-    numbers: &[u32],
-    segments: usize,
-    count: usize,
-    out: &mut [u8],
-) -> usize
-    requires { spoilt kinds.now lengths.now numbers.now segments count ≡ false }
-    ensures { Written (path_text true (segments_of kinds.now lengths.now numbers.now segments count)) out.old 0 out.new result }
+fn write_path(path: AsPath, out: &mut [u8]) -> usize
+    ensures { Written (path_text true (segments_in path.entry)) out.old 0 out.new result }
 {
     let mut place = 0;
     let mut first = true;
-    let mut from = 0;
-    let mut i = 0;
-    while i < segments {
-        let end = from + lengths[i] as usize;
-        place = write_item(first, kinds[i], &numbers[from..end], out, place);
+    for segment in path.segments() {
+        place = write_item(first, segment, out, place);
         first = false;
-        from = end;
-        i += 1;
     }
     place
 }
 
-pub fn display(
-    kinds: &[u8],
-    lengths: &[u32],
-    numbers: &[u32],
-    segments: usize,
-    count: usize,
-    out: &mut [u8],
-) -> Shown
-    ensures { Displayed (path kinds.now lengths.now numbers.now segments count) out.old result out.new }
+pub fn display(lent: PathRecord, out: &mut [u8]) -> Result<usize, DisplayError>
+    ensures { Displayed (path_of lent.entry) out.old result out.new }
 {
-    if aspath::is_spoilt(kinds, lengths, numbers, segments, count) {
-        return Shown::Spoilt;
-    }
-    let n = path_len(kinds, lengths, numbers, segments, count);
+    let path = lent.check()?;
+    let n = path_len(path);
     if out.len() < n {
-        return Shown::TooShort;
+        return Err(DisplayError::TooShort);
     }
-    write_path(kinds, lengths, numbers, segments, count, out);
-    Shown::Wrote(n)
+    write_path(path, out);
+    Ok(n)
 }

@@ -1,4 +1,3 @@
 pub mod Examples
 pub mod Lists
 pub mod Routing
-pub mod Same

@@ -6,6 +6,7 @@ use Prim.Native.Nat.{ℕ}
 use native.Mathlib.Omega.{arith}
 use lib.Dec.{eqb}
 use borrow.Author.Tests.{eqb-true, eq-eqb}
+use Rattle.std.proofs.lemmas.Slice.Eq.{bytes_eq-Decides}
 use Rattle.aspath.specs.Record.{Segment, cut, kinds_of, lengths_of, numbers_of}
 use Rattle.aspath.proofs.Lists.{and_both}
 use Rattle.aspath.proofs.Record.{cut_flat}
@@ -18,18 +19,10 @@ of k n = record { kind = k; numbers = n }
 
 -- the comparisons tell whether two lists, two segments or two paths are the same
 same_numbers_lem : (a b : List ℕ) → same_numbers a b ≡ true → a ≡ b
-unfolding same_numbers
-same_numbers_lem [] [] e = refl
-same_numbers_lem [] (y ∷ b) e = let z : ◌≡◌ {A = ℕ} 0 1 = cc in absurd (omega arith)
-same_numbers_lem (x ∷ a) [] e = let z : ◌≡◌ {A = ℕ} 0 1 = cc in absurd (omega arith)
-same_numbers_lem (x ∷ a) (y ∷ b) e =
-    let both = and_both (eqb x y) (same_numbers a b) e in
-    ap₂ (λ z l. z ∷ l) (eqb-true x y both.0) (same_numbers_lem a b both.1)
+same_numbers_lem a b = (bytes_eq-Decides a b).0
 
 numbers_same : (a : List ℕ) → same_numbers a a ≡ true
-unfolding same_numbers
-numbers_same [] = refl
-numbers_same (x ∷ a) = simp (eq-eqb x x refl, numbers_same a)
+numbers_same a = (bytes_eq-Decides a a).1 refl
 
 same_path_lem : (p q : List Segment) → All Sorted p → All Sorted q → same_path p q ≡ true → p ≡ q
 unfolding same_path
@@ -53,14 +46,15 @@ path_same (x ∷ p) = simp (eq-eqb x.kind x.kind refl, numbers_same (sort_set x)
 
 -- and two normal forms are compared by their lists
 abbrev pub same_lists : List Segment → List Segment → Bool
-same_lists p q = same_numbers (kinds_of p) (kinds_of q) && same_numbers (lengths_of p) (lengths_of q) && same_numbers (numbers_of p) (numbers_of q)
+same_lists p q =
+    same_numbers (kinds_of p) (kinds_of q) && (same_numbers (lengths_of p) (lengths_of q) && same_numbers (numbers_of p) (numbers_of q))
 
 same_lists_lem : (p q : List Segment) → same_lists p q ≡ true → p ≡ q
 same_lists_lem p q h =
-    let two = and_both (same_numbers (kinds_of p) (kinds_of q) && same_numbers (lengths_of p) (lengths_of q)) (same_numbers (numbers_of p) (numbers_of q)) h in
-    let one = and_both (same_numbers (kinds_of p) (kinds_of q)) (same_numbers (lengths_of p) (lengths_of q)) two.0 in
+    let one = and_both (same_numbers (kinds_of p) (kinds_of q)) (same_numbers (lengths_of p) (lengths_of q) && same_numbers (numbers_of p) (numbers_of q)) h in
+    let two = and_both (same_numbers (lengths_of p) (lengths_of q)) (same_numbers (numbers_of p) (numbers_of q)) one.1 in
     let k = same_numbers_lem (kinds_of p) (kinds_of q) one.0 in
-    let l = same_numbers_lem (lengths_of p) (lengths_of q) one.1 in
+    let l = same_numbers_lem (lengths_of p) (lengths_of q) two.0 in
     let n = same_numbers_lem (numbers_of p) (numbers_of q) two.1 in
     sym (cut_flat p) ∙ (let s : cut (kinds_of p) (lengths_of p) (numbers_of p) ≡ cut (kinds_of q) (lengths_of q) (numbers_of q) = cc in s) ∙ cut_flat q
 

@@ -1,53 +1,52 @@
 // Whether two paths are equivalent, by their normal forms.
 #![tactic(auto)]
 
-ghost use Rattle.std.specs.Prelude.{◌≡◌};
+ghost use Rattle.std.specs.Prelude.{◌≡◌, ◌≤◌, length, take};
 ghost use Rattle.aspath.specs.Record.{path, kinds_of, lengths_of, numbers_of};
 ghost use Rattle.aspath_normal.specs.Normal.{dedup_coalesce};
 ghost use Rattle.aspath_normal.specs.Layout.{after};
-ghost use Rattle.aspath_equivalence.specs.Routing.{same_numbers, both, equivalence};
+ghost use Rattle.aspath_equivalence.specs.Routing.{both, equivalence};
 
-fn same_u8(a: &[u8], b: &[u8]) -> bool
-    ensures { result ≡ same_numbers a.now b.now }
-{
-    if a.len() != b.len() {
-        return false;
-    }
-    let mut i = 0;
-    while i < a.len() {
-        if a[i] != b[i] {
-            return false;
+use aspath::{PathRecord, Spoilt};
+use aspath_normal::Counts;
+
+// Whether two paths are equivalent, and what there is of both records then.
+#[derive(Debug, Clone, Copy, PartialEq, Eq)]
+pub struct Equivalence {
+    pub equivalent: bool,
+    pub first: Counts,
+    pub second: Counts,
+}
+
+// A path's normal form, as it stands in three lists.
+#[derive(Clone, Copy, PartialEq)]
+struct NormalForm<'a> {
+    kinds: &'a [u8],
+    lengths: &'a [u32],
+    numbers: &'a [u32],
+}
+
+impl<'a> NormalForm<'a> {
+    fn new(
+        kinds: &'a [u8],
+        lengths: &'a [u32],
+        numbers: &'a [u32],
+        counts: Counts,
+    ) -> NormalForm<'a>
+        requires { (counts.segments ≤ length kinds.now) × (counts.segments ≤ length lengths.now) × (counts.numbers ≤ length numbers.now) }
+        ensures { (result.kinds.now ≡ take counts.segments kinds.now) × (result.lengths.now ≡ take counts.segments lengths.now) × (result.numbers.now ≡ take counts.numbers numbers.now) }
+    {
+        NormalForm {
+            kinds: &kinds[..counts.segments],
+            lengths: &lengths[..counts.segments],
+            numbers: &numbers[..counts.numbers],
         }
-        i += 1;
     }
-    true
 }
 
-fn same_u32(a: &[u32], b: &[u32]) -> bool
-    ensures { result ≡ same_numbers a.now b.now }
-{
-    if a.len() != b.len() {
-        return false;
-    }
-    let mut i = 0;
-    while i < a.len() {
-        if a[i] != b[i] {
-            return false;
-        }
-        i += 1;
-    }
-    true
-}
-
-#[derive(Clone, Copy)]
-pub enum Equivalence {
-    // whether they are equivalent, and the counts of segments and numbers of the first path and of the second
-    Answer(bool, usize, usize, usize, usize),
-    Spoilt,
-}
-
-// AsPath::has_equivalent_routing, which leaves both paths in their normal form. The second is tested before the first is
-// changed; the answer does not tell which of two was spoilt.
+// AsPath::has_equivalent_routing, which leaves both paths in their normal form. The second is tested
+// before the first is changed; the answer does not tell which of two was spoilt.
+// Stays six lent lists and four counts: a struct with &mut asks each function for a ghost name.
 pub fn has_equivalent_routing(
     kinds: &mut [u8],
     lengths: &mut [u32],
@@ -59,7 +58,7 @@ pub fn has_equivalent_routing(
     numbers2: &mut [u32],
     segments2: usize,
     count2: usize,
-) -> Equivalence
+) -> Result<Equivalence, Spoilt>
     ensures value { result ≡ equivalence (path kinds.old lengths.old numbers.old segments count) (path kinds2.old lengths2.old numbers2.old segments2 count2) }
     ensures kinds { kinds.new ≡ after (λ p. kinds_of (dedup_coalesce p)) (both (path kinds.old lengths.old numbers.old segments count) (path kinds2.old lengths2.old numbers2.old segments2 count2)) segments kinds.old }
     ensures lengths { lengths.new ≡ after (λ p. lengths_of (dedup_coalesce p)) (both (path kinds.old lengths.old numbers.old segments count) (path kinds2.old lengths2.old numbers2.old segments2 count2)) segments lengths.old }
@@ -68,19 +67,21 @@ pub fn has_equivalent_routing(
     ensures lengths2 { lengths2.new ≡ after (λ p. lengths_of (dedup_coalesce p)) (both (path kinds2.old lengths2.old numbers2.old segments2 count2) (path kinds.old lengths.old numbers.old segments count)) segments2 lengths2.old }
     ensures numbers2 { numbers2.new ≡ after (λ p. numbers_of (dedup_coalesce p)) (both (path kinds2.old lengths2.old numbers2.old segments2 count2) (path kinds.old lengths.old numbers.old segments count)) count2 numbers2.old }
 {
-    if aspath::is_spoilt(kinds2, lengths2, numbers2, segments2, count2) {
-        return Equivalence::Spoilt;
+    PathRecord {
+        kinds: kinds2,
+        lengths: lengths2,
+        numbers: numbers2,
+        segments: segments2,
+        count: count2,
     }
-    let first = aspath_normal::dedup_coalesce(kinds, lengths, numbers, segments, count);
-    let aspath_normal::Normalised::Counts(s, n) = first else {
-        return Equivalence::Spoilt;
-    };
-    let second = aspath_normal::dedup_coalesce(kinds2, lengths2, numbers2, segments2, count2);
-    let aspath_normal::Normalised::Counts(s2, n2) = second else {
-        return Equivalence::Spoilt;
-    };
-    let same = same_u8(&kinds[..s], &kinds2[..s2])
-        & same_u32(&lengths[..s], &lengths2[..s2])
-        & same_u32(&numbers[..n], &numbers2[..n2]);
-    Equivalence::Answer(same, s, n, s2, n2)
+    .check()?;
+    let first = aspath_normal::dedup_coalesce(kinds, lengths, numbers, segments, count)?;
+    let second = aspath_normal::dedup_coalesce(kinds2, lengths2, numbers2, segments2, count2)?;
+    let form = NormalForm::new(kinds, lengths, numbers, first);
+    let form2 = NormalForm::new(kinds2, lengths2, numbers2, second);
+    Ok(Equivalence {
+        equivalent: form == form2,
+        first,
+        second,
+    })
 }

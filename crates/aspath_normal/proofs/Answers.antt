@@ -2,34 +2,46 @@
 use mathlib.Core.Path.{◌≡◌, sym, ap, ap₂, ◌∙◌}
 use mathlib.Core.List.{List, ◌++◌, map}
 use mathlib.Core.Bool.{Bool, true, false}
-use mathlib.Core.Option.{some}
+use Rattle.std.proofs.Common.{Some, None, Ok, Err, cond, refl}
 use Prim.Native.Nat.{ℕ, ◌≤◌}
 use native.Mathlib.Omega.{arith}
 use lib.ListN.{length, take, drop, length-map}
 use lib.Seq.{length-take-le}
 use Rattle.aspath.specs.Lists.{sum}
 use Rattle.aspath.specs.Record.{Segment, spoilt, cut, segments_of, path, kinds_of, lengths_of, numbers_of}
-use Rattle.aspath.proofs.Record.{path_kinds, path_lengths, path_numbers, spoilt_path, passed, unspoilt_path, unspoilt_record}
+use Rattle.aspath.proofs.Record.{path_kinds, path_lengths, path_numbers, unspoilt_path, unspoilt_record}
 use Rattle.aspath_normal.specs.Normal.{coalesce, dedup_coalesce}
 use Rattle.aspath_normal.specs.Layout.{after, counts}
 use Rattle.aspath_normal.specs.Entries.{entry, coalesced_entries, Coalesced}
 use Rattle.aspath_normal.specs.Whole.{Fit, NormalIn}
-use Rattle.aspath_normal.specs.declared.Normalised.TheVariants.{Counts, Spoilt}
+use Rattle.aspath.specs.Queries.{spoilt_record}
+use Rattle.aspath_normal.specs.declared.Counts.{Counts}
 use Rattle.aspath_normal.proofs.Entries.{entry_kinds, entry_lengths}
 use Rattle.aspath_normal.proofs.Calls.{coalesce_numbers, coalesced_entries_lem}
 
-module _ (ks ls ns : List ℕ) (s n : ℕ) (r : Bool) (e : r ≡ spoilt ks ls ns s n) where
-  pub refused : r ≡ true → (f : List Segment → List Segment) → Spoilt ≡ counts f (path ks ls ns s n)
-  unfolding counts
-  refused t f = rw (spoilt_path ks ls ns s n r e t)
+abbrev counted : ℕ → ℕ → Counts
+counted s n = record { segments = s; numbers = n }
 
-  pub unchanged : r ≡ true → (layout : List Segment → List ℕ) (k : ℕ) (old : List ℕ) → old ≡ after layout (path ks ls ns s n) k old
-  unfolding after
-  unchanged t layout k old = rw (spoilt_path ks ls ns s n r e t)
+module _ (ks ls ns : List ℕ) (s n : ℕ) where
+  -- a spoilt record
+  module _ (e : None ≡ path ks ls ns s n) where
+    pub refused : (f : List Segment → List Segment) → Err spoilt_record ≡ counts f (path ks ls ns s n)
+    unfolding counts
+    refused f = rw (← e)
 
-  module _ (t : r ≡ false) where
+    pub unchanged : (layout : List Segment → List ℕ) (k : ℕ) (old : List ℕ) → old ≡ after layout (path ks ls ns s n) k old
+    unfolding after
+    unchanged layout k old = rw (← e)
+
+  -- a record of the segments q
+  module _ (q : List Segment) (e : Some q ≡ path ks ls ns s n) where
     sound : spoilt ks ls ns s n ≡ false
-    sound = passed ks ls ns s n r e t
+    unfolding path
+    sound = go (spoilt ks ls ns s n) e
+      where
+        go : (t : Bool) → Some q ≡ cond t None (Some (segments_of ks ls ns s n)) → t ≡ false
+        go true f = cc
+        go false f = refl
 
     pub kinds_there : s ≤ length ks
     kinds_there = (unspoilt_record ks ls ns s n sound).kinds_there
@@ -54,7 +66,7 @@ module _ (ks ls ns : List ℕ) (s n : ℕ) (r : Bool) (e : r ≡ spoilt ks ls ns
     abbrev p : List Segment
     p = cut (take s ks) (take s ls) (take n ns)
 
-    is_path : path ks ls ns s n ≡ some p
+    is_path : path ks ls ns s n ≡ Some p
     unfolding segments_of
     is_path = unspoilt_path ks ls ns s n sound
 
@@ -62,11 +74,11 @@ module _ (ks ls ns : List ℕ) (s n : ℕ) (r : Bool) (e : r ≡ spoilt ks ls ns
       are : coalesced_entries (take s ks) (take s ls) ≡ map entry (coalesce p)
       are = coalesced_entries_lem p (take s ks) (take s ls) (path_kinds ks ls ns s n p is_path) (path_lengths ks ls ns s n p is_path)
 
-      pub coalesced_counts : Counts c n ≡ counts coalesce (path ks ls ns s n)
+      pub coalesced_counts : Ok (counted c n) ≡ counts coalesce (path ks ls ns s n)
       unfolding counts
       coalesced_counts =
           rw is_path
-          (ap₂ Counts (d.count ∙ ap length are ∙ length-map (coalesce p) entry)
+          (ap₂ (λ a b. Ok (counted a b)) (d.count ∙ ap length are ∙ length-map (coalesce p) entry)
           (sym (ap length (coalesce_numbers p ∙ sym (path_numbers ks ls ns s n p is_path)) ∙ length-take-le n ns numbers_there)))
 
       pub coalesced_kinds : ks' ++ drop s ks ≡ after (λ q. kinds_of (coalesce q)) (path ks ls ns s n) s ks
@@ -78,9 +90,9 @@ module _ (ks ls ns : List ℕ) (s n : ℕ) (r : Bool) (e : r ≡ spoilt ks ls ns
       coalesced_lengths = rw (is_path, d.lengths, are, length-take-le s ls lengths_there, entry_lengths (coalesce p))
 
     module _ (ks' ls' ns' : List ℕ) (s' n' : ℕ) (d : NormalIn (take s ks) (take s ls) (take n ns) ks' ls' ns' s' n') where
-      pub normal_counts : Counts s' n' ≡ counts dedup_coalesce (path ks ls ns s n)
+      pub normal_counts : Ok (counted s' n') ≡ counts dedup_coalesce (path ks ls ns s n)
       unfolding counts
-      normal_counts = rw is_path (ap₂ Counts d.segments d.count)
+      normal_counts = rw is_path (ap₂ (λ a b. Ok (counted a b)) d.segments d.count)
 
       pub normal_kinds : ks' ++ drop s ks ≡ after (λ q. kinds_of (dedup_coalesce q)) (path ks ls ns s n) s ks
       unfolding after

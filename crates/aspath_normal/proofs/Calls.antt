@@ -2,7 +2,7 @@
 use mathlib.Core.Path.{◌≡◌, refl, sym, ap, ◌∙◌}
 use mathlib.Core.List.{List, [], ◌∷◌, ◌++◌, map, append_assoc, append-nil}
 use mathlib.Core.Bool.{Bool, true, false, cond, ◌&&◌}
-use mathlib.Core.Option.{Option, some, none}
+use Rattle.std.proofs.Common.{Option, Some, None}
 use Prim.Native.Nat.{ℕ}
 use native.Mathlib.Omega.{arith}
 use lib.ListN.{length}
@@ -24,12 +24,12 @@ no_numbers x e = go x.numbers (eqb-true (length x.numbers) 0 e)
     go [] f = refl
     go (y ∷ l) f = absurd (omega arith)
 
-merged_numbers : (x y z : Segment) → merge_by (λ x. x.kind) empty append x y ≡ some z → z.numbers ≡ x.numbers ++ y.numbers
+merged_numbers : (x y z : Segment) → merge_by (λ x. x.kind) empty append x y ≡ Some z → z.numbers ≡ x.numbers ++ y.numbers
 merged_numbers x y z =
     go (is_sequence x.kind && eqb x.kind y.kind) (is_sequence x.kind && empty x) (is_sequence y.kind && empty y) refl refl
   where
     go : (p q r : Bool) → is_sequence x.kind && empty x ≡ q → is_sequence y.kind && empty y ≡ r
-        → cond p (some (append x y)) (cond q (some y) (cond r (some x) none)) ≡ some z → z.numbers ≡ x.numbers ++ y.numbers
+        → cond p (Some (append x y)) (cond q (Some y) (cond r (Some x) None)) ≡ Some z → z.numbers ≡ x.numbers ++ y.numbers
     go true q r a b e = let f : append x y ≡ z = cc in ap (λ (t : Segment). t.numbers) (sym f)
     go false true r a b e =
         let f : y ≡ z = cc in
@@ -49,9 +49,9 @@ scan_numbers x (y ∷ l) = go (merge x y) refl (scan_numbers y l) (λ z. scan_nu
   where
     go : (o : Option Segment) → merge x y ≡ o → numbers_of (scan_from merge y l) ≡ y.numbers ++ numbers_of l
         → ((z : Segment) → numbers_of (scan_from merge z l) ≡ z.numbers ++ numbers_of l) → numbers_of (scan_from merge x (y ∷ l)) ≡ x.numbers ++ (y.numbers ++ numbers_of l)
-    go (some z) e f g =
+    go (Some z) e f g =
         ap numbers_of (scan_one merge x y l z e) ∙ g z ∙ rw (merged_numbers x y z e) (append_assoc x.numbers y.numbers (numbers_of l))
-    go none e f g = ap numbers_of (scan_two merge x y l e) ∙ ap (λ t. x.numbers ++ t) f
+    go None e f g = ap numbers_of (scan_two merge x y l e) ∙ ap (λ t. x.numbers ++ t) f
 
 pub coalesce_numbers : (p : List Segment) → numbers_of (coalesce p) ≡ numbers_of p
 unfolding scan fold_map

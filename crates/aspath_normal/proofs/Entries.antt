@@ -1,14 +1,12 @@
 -- coalesce on kinds and lengths.
-use mathlib.Core.Path.{◌≡◌, refl, sym, ap, ◌∙◌}
+use mathlib.Core.Path.{◌≡◌, refl, sym, ap}
 use mathlib.Core.List.{List, [], ◌∷◌, map}
-use mathlib.Core.Bool.{Bool, true, false, ◌&&◌}
-use Prim.Native.Nat.{ℕ, ◌+◌}
+use Prim.Native.Nat.{◌+◌}
 use lib.ListN.{length, length-append}
 use lib.Dec.{eqb}
 use Rattle.aspath.specs.Record.{Segment, kinds_of, lengths_of}
-use Rattle.aspath_normal.specs.Normal.{is_sequence, merge_by, scan, empty, append, coalesce}
-use Rattle.aspath_normal.specs.Entries.{entry_of, entry, entries, merge_entries, step_of}
-use Rattle.aspath_normal.specs.declared.Step.{Step}
+use Rattle.aspath_normal.specs.Normal.{merge_by, scan, empty, append, coalesce}
+use Rattle.aspath_normal.specs.Entries.{entry_of, entry, entries, merge_entries}
 use Rattle.aspath_normal.proofs.Scan.{scan_map, merge_map}
 
 pub entries_of : (p : List Segment) → entries (kinds_of p) (lengths_of p) ≡ map entry p
@@ -32,30 +30,3 @@ entry_kinds (x ∷ p) = ap (λ l. x.kind ∷ l) (entry_kinds p)
 pub entry_lengths : (p : List Segment) → map (λ x. x.length) (map entry p) ≡ lengths_of p
 entry_lengths [] = refl
 entry_lengths (x ∷ p) = ap (λ l. length x.numbers ∷ l) (entry_lengths p)
-
--- what merging two entries gives, by the tests of the code
-module _ (k l nk nl : ℕ) (b : Bool) (e : b ≡ is_sequence k) where
-  abbrev stepped : Step
-  stepped = step_of (merge_entries (entry_of k l) (entry_of nk nl)) (entry_of nk nl)
-
-  pub step_joined : b && eqb k nk ≡ true → record { advance = 0; kind = k; length = l + nl } ≡ stepped
-  unfolding merge_entries step_of
-  step_joined f = simp (ap (λ (t : Bool). t && eqb k nk) (sym e) ∙ f)
-
-  module _ (f : b && eqb k nk ≡ false) where
-    pub step_over : b && eqb l 0 ≡ true → record { advance = 0; kind = nk; length = nl } ≡ stepped
-    unfolding merge_entries step_of
-    step_over g = simp (ap (λ (t : Bool). t && eqb k nk) (sym e) ∙ f, ap (λ (t : Bool). t && eqb l 0) (sym e) ∙ g)
-
-    module _ (g : b && eqb l 0 ≡ false) (c : Bool) (h : c ≡ is_sequence nk) where
-      pub step_dropped : c && eqb nl 0 ≡ true → record { advance = 0; kind = k; length = l } ≡ stepped
-      unfolding merge_entries step_of
-      step_dropped i =
-          simp
-          (ap (λ (t : Bool). t && eqb k nk) (sym e) ∙ f, ap (λ (t : Bool). t && eqb l 0) (sym e) ∙ g, ap (λ (t : Bool). t && eqb nl 0) (sym h) ∙ i)
-
-      pub step_apart : c && eqb nl 0 ≡ false → record { advance = 1; kind = nk; length = nl } ≡ stepped
-      unfolding merge_entries step_of
-      step_apart i =
-          simp
-          (ap (λ (t : Bool). t && eqb k nk) (sym e) ∙ f, ap (λ (t : Bool). t && eqb l 0) (sym e) ∙ g, ap (λ (t : Bool). t && eqb nl 0) (sym h) ∙ i)

@@ -4,7 +4,7 @@
 use mathlib.Core.Path.{◌≡◌, refl, sym, ap, ap₂, ◌∙◌}
 use mathlib.Core.List.{List, [], ◌∷◌, ◌++◌, map, append_assoc, append-nil}
 use mathlib.Core.Bool.{Bool, true, false, cond, ◌&&◌, and-false}
-use mathlib.Core.Option.{Option, some, none}
+use Rattle.std.proofs.Common.{Option, Some, None}
 use Prim.Native.Nat.{ℕ}
 use native.Mathlib.Omega.{arith}
 use lib.ListN.{length, length-append}
@@ -21,15 +21,15 @@ use Rattle.aspath_normal.proofs.Normal.{All, Known, normal_segments, all_same}
 
 -- the scan of a joined list, its first part scanned before
 module _ {X : Type 0} (m : X → X → Option X) (s : Stable m) where
-  stops : (x y : X) (a b : List X) → m x y ≡ none → scan_from m x (scan_from m y a ++ b) ≡ x ∷ scan m (scan_from m y a ++ b)
+  stops : (x y : X) (a b : List X) → m x y ≡ None → scan_from m x (scan_from m y a ++ b) ≡ x ∷ scan m (scan_from m y a ++ b)
   unfolding scan_from scan
   stops x y [] b h = scan_two m x y b h
   stops x y (w ∷ a) b h = go (m y w) refl (λ z. stops x z a b)
     where
-      go : (o : Option X) → m y w ≡ o → ((z : X) → m x z ≡ none → scan_from m x (scan_from m z a ++ b) ≡ x ∷ scan m (scan_from m z a ++ b))
+      go : (o : Option X) → m y w ≡ o → ((z : X) → m x z ≡ None → scan_from m x (scan_from m z a ++ b) ≡ x ∷ scan m (scan_from m z a ++ b))
           → scan_from m x (scan_from m y (w ∷ a) ++ b) ≡ x ∷ scan m (scan_from m y (w ∷ a) ++ b)
-      go (some z) e f = rw (scan_one m y w a z e) (f z (s x y w z h e))
-      go none e f = rw (scan_two m y w a e) (scan_two m x y (scan_from m w a ++ b) h)
+      go (Some z) e f = rw (scan_one m y w a z e) (f z (s x y w z h e))
+      go None e f = rw (scan_two m y w a e) (scan_two m x y (scan_from m w a ++ b) h)
 
   first_from_lem : (x : X) (a b : List X) → scan m (scan_from m x a ++ b) ≡ scan_from m x (a ++ b)
   unfolding scan_from scan
@@ -38,8 +38,8 @@ module _ {X : Type 0} (m : X → X → Option X) (s : Stable m) where
     where
       go : (o : Option X) → m x y ≡ o → ((z : X) → scan m (scan_from m z a ++ b) ≡ scan_from m z (a ++ b))
           → scan m (scan_from m x (y ∷ a) ++ b) ≡ scan_from m x (y ∷ (a ++ b))
-      go (some z) e f = rw (scan_one m x y a z e, scan_one m x y (a ++ b) z e) (f z)
-      go none e f = rw (scan_two m x y a e, scan_two m x y (a ++ b) e) (stops x y a b e ∙ ap (λ t. x ∷ t) (f y))
+      go (Some z) e f = rw (scan_one m x y a z e, scan_one m x y (a ++ b) z e) (f z)
+      go None e f = rw (scan_two m x y a e, scan_two m x y (a ++ b) e) (stops x y a b e ∙ ap (λ t. x ∷ t) (f y))
 
   pub scan_first : (a b : List X) → scan m (scan m a ++ b) ≡ scan m (a ++ b)
   unfolding scan
@@ -56,8 +56,8 @@ module _ {X : Type 0} (m : X → X → Option X) (t : (b : List X) (x y : X) →
     where
       go : (o : Option X) → m x y ≡ o → ((z : X) → scan_from m z (a ++ scan m b) ≡ scan_from m z (a ++ b))
           → scan_from m x (y ∷ (a ++ scan m b)) ≡ scan_from m x (y ∷ (a ++ b))
-      go (some z) e f = rw (scan_one m x y (a ++ scan m b) z e, scan_one m x y (a ++ b) z e) (f z)
-      go none e f = rw (scan_two m x y (a ++ scan m b) e, scan_two m x y (a ++ b) e) (ap (λ l. x ∷ l) (f y))
+      go (Some z) e f = rw (scan_one m x y (a ++ scan m b) z e, scan_one m x y (a ++ b) z e) (f z)
+      go None e f = rw (scan_two m x y (a ++ scan m b) e, scan_two m x y (a ++ b) e) (ap (λ l. x ∷ l) (f y))
 
 -- an empty sequence
 abbrev blank : Segment → Bool
@@ -85,16 +85,16 @@ module _ (x y : Segment) (l : List Segment) where
   over : blank x ≡ true → scan_from merge x (y ∷ l) ≡ scan_from merge y l
   over e = scan_one merge x y l y (go (alike x y) refl)
     where
-      go : (t : Bool) → alike x y ≡ t → cond (alike x y) (some (append x y)) (cond (blank x) (some y) (cond (blank y) (some x) none)) ≡ some y
-      go true f = rw f (ap some (blank_append x y f e))
+      go : (t : Bool) → alike x y ≡ t → cond (alike x y) (Some (append x y)) (cond (blank x) (Some y) (cond (blank y) (Some x) None)) ≡ Some y
+      go true f = rw f (ap Some (blank_append x y f e))
       go false f = rw (f, e)
 
   module _ (n : blank x ≡ false) where
     past : blank y ≡ true → scan_from merge x (y ∷ l) ≡ scan_from merge x l
     past e = scan_one merge x y l x (go (alike x y) refl)
       where
-        go : (t : Bool) → alike x y ≡ t → cond (alike x y) (some (append x y)) (cond (blank x) (some y) (cond (blank y) (some x) none)) ≡ some x
-        go true f = rw f (ap some (append_blank x y f e))
+        go : (t : Bool) → alike x y ≡ t → cond (alike x y) (Some (append x y)) (cond (blank x) (Some y) (cond (blank y) (Some x) None)) ≡ Some x
+        go true f = rw f (ap Some (append_blank x y f e))
         go false f = rw (f, n, e)
 
     joins : alike x y ≡ true → scan_from merge x (y ∷ l) ≡ scan_from merge (append x y) l

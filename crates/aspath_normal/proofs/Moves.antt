@@ -26,9 +26,6 @@ module _ (done : List ℕ) (last n i : ℕ) (e : i ≡ length done + 1 + n) (x :
   long : length (done ++ (last ∷ replicate n 0)) ≡ i
   long = simp (length-append, length-replicate) (omega arith)
 
-  pub at_last : (j : ℕ) → j ≡ length done → get_or l j 0 ≡ last
-  at_last j p = rw s (get_or_at done last (replicate n 0 ++ x ∷ rest) 0 j (sym p))
-
   pub at_next : get_or l i 0 ≡ x
   at_next = rw split_there (get_or_at (done ++ (last ∷ replicate n 0)) x rest 0 i long)
 

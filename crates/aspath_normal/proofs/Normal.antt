@@ -6,7 +6,7 @@
 use mathlib.Core.Path.{◌≡◌, refl, sym, ap, ap₂, subst, ◌∙◌}
 use mathlib.Core.List.{List, [], ◌∷◌, ◌++◌, map}
 use mathlib.Core.Bool.{Bool, true, false, cond, ◌&&◌}
-use mathlib.Core.Option.{Option, some, none}
+use Rattle.std.proofs.Common.{Option, Some, None}
 use Prim.Native.Nat.{ℕ, zero, suc, ◌≤◌}
 use native.Mathlib.Omega.{arith}
 use lib.ListN.{length, length-append}
@@ -26,15 +26,15 @@ All P [] = Unit {0}
 All P (x ∷ l) = P x × All P l
 
 -- what merging keeps, the scan keeps
-module _ {X : Type 0} (m : X → X → Option X) (P : X → Type 0) (c : (x y z : X) → m x y ≡ some z → P x → P y → P z) where
+module _ {X : Type 0} (m : X → X → Option X) (P : X → Type 0) (c : (x y z : X) → m x y ≡ Some z → P x → P y → P z) where
   pub scan_from_all : (x : X) (l : List X) → P x → All P l → All P (scan_from m x l)
   unfolding scan_from
   scan_from_all x [] a b = (a, tt)
   scan_from_all x (y ∷ l) a b = go (m x y) refl (scan_from_all y l b.0 b.1) (λ z d. scan_from_all z l d b.1)
     where
       go : (o : Option X) → m x y ≡ o → All P (scan_from m y l) → ((z : X) → P z → All P (scan_from m z l)) → All P (scan_from m x (y ∷ l))
-      go (some z) e f g = rw (scan_one m x y l z e) (g z (c x y z e a b.0))
-      go none e f g = rw (scan_two m x y l e) (a, f)
+      go (Some z) e f g = rw (scan_one m x y l z e) (g z (c x y z e a b.0))
+      go None e f g = rw (scan_two m x y l e) (a, f)
 
   pub scan_all : (l : List X) → All P l → All P (scan m l)
   unfolding scan
@@ -49,12 +49,12 @@ map_all f P h (x ∷ l) = (h x, map_all f P h l)
 abbrev pub merge_deduped : Segment → Segment → Option Segment
 merge_deduped = merge_by (λ x. x.kind) empty (λ x y. dedup_numbers (append x y))
 
-pub merged_cases : (P : Segment → Type 0) (x y z : Segment) → merge_deduped x y ≡ some z
+pub merged_cases : (P : Segment → Type 0) (x y z : Segment) → merge_deduped x y ≡ Some z
     → (is_sequence x.kind ≡ true → P (dedup_numbers (append x y))) → P x → P y → P z
 merged_cases P x y z e s a b =
     go (is_sequence x.kind) refl (eqb x.kind y.kind) (is_sequence x.kind && empty x) (is_sequence y.kind && empty y) e
   where
-    go : (p : Bool) → is_sequence x.kind ≡ p → (k q r : Bool) → cond (p && k) (some (dedup_numbers (append x y))) (cond q (some y) (cond r (some x) none)) ≡ some z → P z
+    go : (p : Bool) → is_sequence x.kind ≡ p → (k q r : Bool) → cond (p && k) (Some (dedup_numbers (append x y))) (cond q (Some y) (cond r (Some x) None)) ≡ Some z → P z
     go true f true q r g = let h : dedup_numbers (append x y) ≡ z = cc in subst P h (s f)
     go true f false true r g = let h : y ≡ z = cc in subst P h b
     go true f false false true g = let h : x ≡ z = cc in subst P h a

@@ -2,7 +2,7 @@
 use mathlib.Core.Path.{◌≡◌, refl, ap}
 use mathlib.Core.List.{List, [], ◌∷◌, ◌++◌, map, append_assoc}
 use mathlib.Core.Bool.{Bool, true, false, cond, not, ◌&&◌, ◌||◌}
-use mathlib.Core.Option.{Option, some, none}
+use Rattle.std.proofs.Common.{Option, Some, None}
 use Prim.Native.Nat.{ℕ, suc, ◌-◌, ◌≤◌}
 use native.Mathlib.Omega.{arith}
 use lib.ListN.{length, drop, replicate, length-append, length-map}
@@ -59,8 +59,8 @@ scan_from_length m x [] = omega arith
 scan_from_length {X} m x (y ∷ l) = go (m x y) refl (λ z. scan_from_length m z l)
   where
     go : (o : Option X) → m x y ≡ o → ((z : X) → length (scan_from m z l) ≤ suc (length l)) → length (scan_from m x (y ∷ l)) ≤ suc (suc (length l))
-    go (some z) e f = rw (scan_one m x y l z e) (omega (arith, f z))
-    go none e f = rw (scan_two m x y l e) (omega (arith, f y))
+    go (Some z) e f = rw (scan_one m x y l z e) (omega (arith, f z))
+    go None e f = rw (scan_two m x y l e) (omega (arith, f y))
 
 scan_length : {X : Type 0} (m : X → X → Option X) (l : List X) → length (scan m l) ≤ length l
 unfolding scan
@@ -98,7 +98,7 @@ normal_numbers p =
 
 -- a path laid out in place is read back by its counts
 in_place_path : (q : List Segment) → length q ≤ 4096 → length (numbers_of q) ≤ 16384 → All Known q → (s n : ℕ) (ks ls ns : List ℕ)
-    → path (in_place s (kinds_of q) ks) (in_place s (lengths_of q) ls) (in_place n (numbers_of q) ns) (length q) (length (numbers_of q)) ≡ some q
+    → path (in_place s (kinds_of q) ks) (in_place s (lengths_of q) ls) (in_place n (numbers_of q) ns) (length q) (length (numbers_of q)) ≡ Some q
 in_place_path q h i a s n ks ls ns =
     rw (
       append_assoc (kinds_of q) (replicate (s - length (kinds_of q)) 0) (drop s ks),
@@ -112,6 +112,6 @@ in_place_path q h i a s n ks ls ns =
 pub normal_record : (p : List Segment) → length p ≤ 4096 → length (numbers_of p) ≤ 16384 → All Known p → (s n : ℕ) (ks ls ns : List ℕ)
     → path (in_place s (kinds_of (dedup_coalesce p)) ks) (in_place s (lengths_of (dedup_coalesce p)) ls) (in_place n (numbers_of (dedup_coalesce p)) ns)
     (length (dedup_coalesce p)) (length (numbers_of (dedup_coalesce p)))
-    ≡ some (dedup_coalesce p)
+    ≡ Some (dedup_coalesce p)
 normal_record p h i a =
     in_place_path (dedup_coalesce p) (omega (arith, normal_length p)) (omega (arith, normal_numbers p)) (normal_known p a)

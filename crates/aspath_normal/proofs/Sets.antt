@@ -1,36 +1,19 @@
 -- The loops over sets: `single_sets` and `sort_sets`.
 use mathlib.Core.Path.{◌≡◌, refl, sym, ap, ap₂, ◌∙◌}
 use mathlib.Core.List.{List, [], ◌∷◌, ◌++◌, map, append_assoc, append-nil}
-use mathlib.Core.Bool.{Bool, true, false, cond, not}
-use Prim.Native.Nat.{ℕ, zero, suc, ◌+◌, ◌-◌, ◌≤◌, ◌<◌}
+use mathlib.Core.Bool.{true, false, cond}
+use Prim.Native.Nat.{ℕ, ◌+◌, ◌-◌, ◌≤◌, ◌<◌}
 use native.Mathlib.Omega.{arith}
 use lib.ListN.{length, get_or, set, take, drop, length-append, length-set, length-drop, drop_of_length-le, take-append-drop}
 use lib.Seq.{set_at, get_or_at, take_at, drop_at, drop-drop, length-take-le}
-use borrow.Author.Tests.{eq-eqb, ne_eqb, not-true, not-false}
 use Rattle.sort.specs.Sort.{sorted}
+use Rattle.sort.proofs.Sorting.{length_sorted}
 use Rattle.aspath.specs.Lists.{fold_map, sum}
 use Rattle.aspath.specs.Record.{cut, numbers_of}
 use Rattle.aspath_normal.specs.Normal.{is_sequence, single_kind, sort_set}
-use Rattle.aspath_normal.specs.Entries.{Entry, entries}
+use Rattle.aspath_normal.specs.declared.Entry.{Entry}
+use Rattle.aspath_normal.specs.Entries.{entries}
 use Rattle.aspath_normal.proofs.Moves.{uncons}
-
--- a set's kind is at least 1, and of one number it becomes the kind below
-module _ (k l : ℕ) (b : Bool) (e : b ≡ is_sequence k) where
-  pub kind_kept : b ≡ true → k ≡ single_kind k l
-  kind_kept f = simp (sym e ∙ f)
-
-  pub set_above : b ≡ false → 1 ≤ k
-  set_above f = go k (sym e ∙ f)
-    where
-      go : (k : ℕ) → is_sequence k ≡ false → 1 ≤ k
-      go zero g = let z : ◌≡◌ {A = ℕ} 0 1 = cc in absurd (omega arith)
-      go (suc k) g = omega arith
-
-  pub kind_below : b ≡ false → l ≡ 1 → k - 1 ≡ single_kind k l
-  kind_below f g = simp (sym e ∙ f, eq-eqb l 1 g)
-
-  pub kind_set : b ≡ false → (l ≡ 1 → ⊥) → k ≡ single_kind k l
-  kind_set f g = simp (sym e ∙ f, ne_eqb l 1 g)
 
 abbrev single : Entry → ℕ
 single x = single_kind x.kind x.length
@@ -107,8 +90,8 @@ module _ (ks ls ns₀ ns : List ℕ) (i at : ℕ) (d : SortingSets ks ls ns₀ n
     unfolding fold_map
     left_now = omega (arith, d.left, ap sum (uncons ls i more_ls))
 
-    pub set_end : at + get_or ls i 0 ≤ length ns
-    set_end = omega (arith, left_now, d.long)
+    end_there : at + get_or ls i 0 ≤ length ns
+    end_there = omega (arith, left_now, d.long)
 
     abbrev numbers : List ℕ
     numbers = take (get_or ls i 0) (drop at ns₀)
@@ -150,18 +133,28 @@ module _ (ks ls ns₀ ns : List ℕ) (i at : ℕ) (d : SortingSets ks ls ns₀ n
               ∙ sym (append_assoc d.done y (numbers_of (map sort_set (cut (drop (i + 1) ks) (drop (i + 1) ls) (drop (at + get_or ls i 0) ns₀)))));
         }
 
-    module _ (b : Bool) (e : b ≡ is_sequence (get_or ks i 0)) where
-      pub sequence_passed : not b ≡ false → SortingSets ks ls ns₀ ns (i + 1) (at + get_or ls i 0)
-      sequence_passed f =
-          step numbers ns (rw (← e, not-false b f)) numbers_long refl
-          (d.now ∙ ap (λ l. d.done ++ l) (sym (take-append-drop (get_or ls i 0) (drop at ns₀)) ∙ ap (λ l. numbers ++ l) rest))
+    -- k and l are the segment's kind and length, as the loop reads them
+    module _ (k l i' : ℕ) (kind : k ≡ get_or ks i 0) (long : l ≡ get_or ls i 0) (turn : i' ≡ i + 1) where
+      pub set_end : at + l ≤ length ns
+      set_end = omega (arith, end_there)
 
-      pub set_sorted : not b ≡ true → (t : List ℕ) → length t ≡ length (take (at + get_or ls i 0 - at) (drop at ns)) → t ≡ sorted (take (at + get_or ls i 0 - at) (drop at ns))
-          → (ns' : List ℕ) → length ns' ≡ length ns → ns' ≡ take at ns ++ (t ++ drop (at + get_or ls i 0 - at) (drop at ns))
-          → SortingSets ks ls ns₀ ns' (i + 1) (at + get_or ls i 0)
-      set_sorted f t l g ns' m q =
-          step t ns' (g ∙ rw (← e, not-true b f, width, from_at)) (l ∙ rw (width, from_at) numbers_long) m
-          (q ∙ ap₂ (λ a b. a ++ (t ++ b)) up_to behind)
+      pub sequence_passed : is_sequence k ≡ true → SortingSets ks ls ns₀ ns i' (at + l)
+      sequence_passed f =
+          rw (turn, long)
+          (step numbers ns (rw (← kind, f)) numbers_long refl
+          (d.now ∙ ap (λ l. d.done ++ l) (sym (take-append-drop (get_or ls i 0) (drop at ns₀)) ∙ ap (λ l. numbers ++ l) rest)))
+
+      pub set_sorted : is_sequence k ≡ false → (t : List ℕ) → t ≡ sorted (take (at + l - at) (drop at ns))
+          → SortingSets ks ls ns₀ (take at ns ++ (t ++ drop (at + l - at) (drop at ns))) i' (at + l)
+      set_sorted f t g =
+          let q : take at ns ++ (t ++ drop (at + l - at) (drop at ns)) ≡ d.done ++ (t ++ drop (at + get_or ls i 0) ns₀) =
+          rw long (ap₂ (λ a b. a ++ (t ++ b)) up_to behind) in
+          let e : t ≡ sorted numbers = g ∙ rw (long, width, from_at) in
+          let m : length t ≡ get_or ls i 0 = ap length e ∙ length_sorted numbers ∙ numbers_long in
+          let n : length (drop (at + get_or ls i 0) ns₀) ≡ length ns₀ - (at + get_or ls i 0) = length-drop (at + get_or ls i 0) ns₀ in
+          rw (turn, q, long)
+          (step t (d.done ++ (t ++ drop (at + get_or ls i 0) ns₀)) (rw (← kind, f) e) m
+          (simp length-append (omega (arith, n, m, d.size, d.long, end_there))) refl)
 
   pub all_sorted : length ks ≤ i → ns ≡ numbers_of (map sort_set (cut ks ls ns₀))
   unfolding cut fold_map

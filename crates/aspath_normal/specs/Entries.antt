@@ -1,16 +1,11 @@
 -- A record without its numbers: coalesce moves none of them, so it works on kinds and lengths alone.
-use Rattle.std.specs.Prelude.{ℕ, ◌+◌, List, [], ◌∷◌, map, length, ◌≡◌, eqb}
-use Rattle.std.proofs.Math.Option.{Option, some, none}
+use Rattle.std.specs.Prelude.{ℕ, ◌+◌, List, [], ◌∷◌, map, length, ◌≡◌, eqb, Option}
 use Rattle.aspath.specs.Record.{Segment}
 use Rattle.aspath_normal.specs.Normal.{merge_by, scan}
 use Rattle.aspath_normal.specs.Layout.{padded}
-use Rattle.aspath_normal.specs.declared.Step.{Step}
+use Rattle.aspath_normal.specs.declared.Entry.{Entry}
 
--- a segment's kind and length
-pub record Entry : Type 0 where
-  pub kind : ℕ
-  pub length : ℕ
-
+-- an entry is a segment's kind and length
 abbrev pub entry_of : ℕ → ℕ → Entry
 entry_of k l = record { kind = k; length = l }
 
@@ -24,11 +19,6 @@ entries (k ∷ ks) (l ∷ ls) = entry_of k l ∷ entries ks ls
 
 unfoldable pub merge_entries : Entry → Entry → Option Entry
 merge_entries = merge_by (λ x. x.kind) (λ x. eqb x.length 0) (λ x y. entry_of x.kind (x.length + y.length))
-
--- the entry that is last after y was scanned, and whether it stands one place further
-unfoldable pub step_of : Option Entry → Entry → Step
-step_of (some z) y = record { advance = 0; kind = z.kind; length = z.length }
-step_of none y = record { advance = 1; kind = y.kind; length = y.length }
 
 abbrev pub coalesced_entries : List ℕ → List ℕ → List Entry
 coalesced_entries ks ls = scan merge_entries (entries ks ls)

@@ -1,6 +1,6 @@
 -- AsPath::coalesce and dedup_coalesce (aspath.rs), said of a path's segments.
 use Rattle.std.specs.Prelude.{ℕ, ◌-◌, List, [], ◌∷◌, ◌++◌, map, Bool, cond, not, ◌&&◌, ◌||◌, length, eqb}
-use Rattle.std.proofs.Math.Option.{Option, some, none}
+use Rattle.std.specs.Prelude.{Option, Some, None}
 use Rattle.sort.specs.Sort.{sorted}
 use Rattle.sort.specs.Dedup.{dedup}
 use Rattle.aspath.specs.Record.{Segment}
@@ -13,13 +13,13 @@ is_sequence k = eqb k 0 || eqb k 2
 -- gives way to the other
 abbrev pub merge_by : {X : Type 0} → (X → ℕ) → (X → Bool) → (X → X → X) → X → X → Option X
 merge_by kind empty join x y =
-    cond (is_sequence (kind x) && eqb (kind x) (kind y)) (some (join x y))
-    (cond (is_sequence (kind x) && empty x) (some y) (cond (is_sequence (kind y) && empty y) (some x) none))
+    cond (is_sequence (kind x) && eqb (kind x) (kind y)) (Some (join x y))
+    (cond (is_sequence (kind x) && empty x) (Some y) (cond (is_sequence (kind y) && empty y) (Some x) None))
 
 -- the scan of coalesce: x is the segment at end_index, and the others have not been scanned
 unfoldable pub scan_from : {X : Type 0} → (X → X → Option X) → X → List X → List X
 scan_from merge x [] = x ∷ []
-scan_from merge x (y ∷ l) = elim (merge x y) [ none ↦ x ∷ scan_from merge y l | some z ↦ scan_from merge z l ]
+scan_from merge x (y ∷ l) = elim (merge x y) [ None ↦ x ∷ scan_from merge y l | Some z ↦ scan_from merge z l ]
 
 unfoldable pub scan : {X : Type 0} → (X → X → Option X) → List X → List X
 scan merge [] = []

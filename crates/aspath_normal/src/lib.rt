@@ -1,4 +1,5 @@
 // The normal forms of a path, made in the lent lists.
+// Stays three lent lists and two counts: a struct with &mut asks each function for a ghost name.
 #![tactic(auto)]
 
 ghost use Rattle.std.specs.Prelude.{◌≡◌, ◌+◌, ◌≤◌, ◌<◌, ◌^◌, map, length, take, drop, replicate};
@@ -9,119 +10,125 @@ ghost use Rattle.aspath_normal.specs.Normal.{is_sequence, single_kind, sort_set,
 ghost use Rattle.aspath_normal.specs.Layout.{padded, after, counts};
 ghost use Rattle.aspath_normal.specs.Parts.{FirstKept, kept_from, Deduped};
 ghost use Rattle.aspath_normal.specs.Whole.{Fit, NormalIn};
-ghost use Rattle.aspath_normal.specs.Entries.{Coalesced, entry_of, merge_entries, entries, step_of};
+ghost use Rattle.aspath_normal.specs.Entries.{Coalesced, merge_entries, entries};
 
-#[derive(Clone, Copy)]
-pub enum Normalised {
-    // the segments and the numbers of the new record
-    Counts(usize, usize),
-    Spoilt,
+use aspath::{PathRecord, Spoilt};
+
+// What there is of a record.
+#[derive(Debug, Clone, Copy, PartialEq, Eq)]
+pub struct Counts {
+    pub segments: usize,
+    pub numbers: usize,
 }
 
 fn is_sequence(kind: u8) -> bool
     ensures { result ≡ is_sequence kind }
 {
-    (kind == 0) | (kind == 2)
+    matches!(kind, 0 | 2)
 }
 
-// What the scan of coalesce does with one segment more: the kind and length that are last then, and by how many places they
-// stand further.
+// A segment without its numbers.
 #[derive(Clone, Copy)]
-struct Step {
-    advance: usize,
+struct Entry {
     kind: u8,
     length: u32,
 }
 
-fn merge(k: u8, l: u32, nk: u8, nl: u32) -> Step
-    requires { l + nl < 2 ^ 32 }
-    ensures { result ≡ step_of (merge_entries (entry_of k l) (entry_of nk nl)) (entry_of nk nl) }
+// What two neighbours become, if they become one.
+#[tactic(auto, unfolding(crate::specs::Entries::merge_entries))]
+fn merge(last: Entry, next: Entry) -> Option<Entry>
+    requires { last.length + next.length < 2 ^ 32 }
+    ensures { result ≡ merge_entries last next }
 {
-    let sequence = is_sequence(k);
-    let next_sequence = is_sequence(nk);
-    if sequence & (k == nk) {
-        return Step {
-            advance: 0,
-            kind: k,
-            length: l + nl,
-        };
-    }
-    if sequence & (l == 0) {
-        return Step {
-            advance: 0,
-            kind: nk,
-            length: nl,
-        };
-    }
-    if next_sequence & (nl == 0) {
-        return Step {
-            advance: 0,
-            kind: k,
-            length: l,
-        };
-    }
-    Step {
-        advance: 1,
-        kind: nk,
-        length: nl,
+    let sequence = is_sequence(last.kind);
+    if sequence && last.kind == next.kind {
+        Some(Entry {
+            kind: last.kind,
+            length: last.length + next.length,
+        })
+    } else if sequence && last.length == 0 {
+        Some(next)
+    } else if is_sequence(next.kind) && next.length == 0 {
+        Some(last)
+    } else {
+        None
     }
 }
 
-// The scan of coalesce, on the kinds and the lengths of all segments. Entries move down, and a place that was read is set to 0.
+// The scan of coalesce, on the kinds and the lengths of all segments. Entries move down, and a
+// place that was read is set to 0.
 fn coalesce_entries(kinds: &mut [u8], lengths: &mut [u32]) -> usize
     requires { (length kinds.old ≡ length lengths.old) × (sum lengths.old ≤ 16384) }
     ensures { Coalesced kinds.old lengths.old kinds.new lengths.new result }
 {
-    if kinds.len() == 0 {
+    if kinds.is_empty() {
         return 0;
     }
     let mut end = 0;
-    let mut i = 1;
-    while i < kinds.len() {
-        let s = merge(kinds[end], lengths[end], kinds[i], lengths[i]);
+    let mut last = Entry {
+        kind: kinds[0],
+        length: lengths[0],
+    };
+    for i in 1..kinds.len() {
+        let next = Entry {
+            kind: kinds[i],
+            length: lengths[i],
+        };
         kinds[i] = 0;
         lengths[i] = 0;
-        i += 1;
-        end += s.advance;
-        kinds[end] = s.kind;
-        lengths[end] = s.length;
+        match merge(last, next) {
+            Some(joined) => last = joined,
+            None => {
+                last = next;
+                end += 1;
+            }
+        }
+        kinds[end] = last.kind;
+        lengths[end] = last.length;
     }
     end + 1
 }
 
 // AsPath::coalesce. The numbers stay where they are.
+#[tactic(auto, using(crate::proofs::Answers::kinds_there, crate::proofs::Answers::lengths_there, crate::proofs::Answers::numbers_there))]
 pub fn coalesce(
     kinds: &mut [u8],
     lengths: &mut [u32],
     numbers: &[u32],
     segments: usize,
     count: usize,
-) -> Normalised
+) -> Result<Counts, Spoilt>
     ensures value { result ≡ counts coalesce (path kinds.old lengths.old numbers.now segments count) }
     ensures kinds { kinds.new ≡ after (λ p. kinds_of (coalesce p)) (path kinds.old lengths.old numbers.now segments count) segments kinds.old }
     ensures lengths { lengths.new ≡ after (λ p. lengths_of (coalesce p)) (path kinds.old lengths.old numbers.now segments count) segments lengths.old }
 {
-    if aspath::is_spoilt(kinds, lengths, numbers, segments, count) {
-        return Normalised::Spoilt;
+    PathRecord {
+        kinds,
+        lengths,
+        numbers,
+        segments,
+        count,
     }
+    .check()?;
     let left = coalesce_entries(&mut kinds[..segments], &mut lengths[..segments]);
-    Normalised::Counts(left, count)
+    Ok(Counts {
+        segments: left,
+        numbers: count,
+    })
 }
 
-// The first number is at the front, and zeros follow it up to j: the numbers from j on move down, without those that equal
-// the one before them; the places freed are 0.
+// The first number is at the front, and zeros follow it up to j: the numbers from j on move down,
+// without those that equal the one before them; the places freed are 0.
+#[tactic(auto, using(crate::proofs::Deduping::equal_dropped, crate::proofs::Deduping::other_kept))]
 fn dedup_from(t: &mut [u32], first: u32, j: usize) -> usize
     requires { FirstKept t.old first j }
     ensures { (result ≡ length (kept_from t.old first j)) × (t.new ≡ padded (length t.old) (kept_from t.old first j)) }
 {
     let mut last = first;
     let mut k = 1;
-    let mut i = j;
-    while i < t.len() {
-        let at = i;
-        let x = t[at];
-        t[at] = 0;
-        i += 1;
+    for i in j..t.len() {
+        let x = t[i];
+        t[i] = 0;
         if x != last {
             t[k] = x;
             last = x;
@@ -131,7 +138,8 @@ fn dedup_from(t: &mut [u32], first: u32, j: usize) -> usize
     k
 }
 
-// The numbers behind a gap of zeros go to the front, without those that equal the one before them; the places freed are 0.
+// The numbers behind a gap of zeros go to the front, without those that equal the one before them;
+// the places freed are 0.
 fn dedup_down(t: &mut [u32], gap: usize) -> usize
     requires { (gap ≤ length t.old) × (take gap t.old ≡ replicate gap 0) }
     ensures { (result ≡ length (dedup (drop gap t.old))) × (t.new ≡ padded (length t.old) (dedup (drop gap t.old))) }
@@ -150,27 +158,26 @@ fn dedup_segments(lengths: &mut [u32], numbers: &mut [u32]) -> usize
     requires { (sum lengths.old ≡ length numbers.old) × (length numbers.old ≤ 16384) }
     ensures { Deduped lengths.old numbers.old lengths.new numbers.new result }
 {
-    let mut i = 0;
     let mut read = 0;
     let mut write = 0;
-    while i < lengths.len() {
-        let end = read + lengths[i] as usize;
+    for length in lengths.iter_mut() {
+        let end = read + *length as usize;
         let left = dedup_down(&mut numbers[write..end], read - write);
-        lengths[i] = left as u32;
-        i += 1;
+        *length = left as u32;
         read = end;
         write += left;
     }
     write
 }
 
-fn single_kind(k: u8, l: u32) -> u8
-    ensures { result ≡ single_kind k l }
+fn single_kind(kind: u8, length: u32) -> u8
+    ensures { result ≡ single_kind kind length }
 {
-    if is_sequence(k) {
-        return k;
+    if !is_sequence(kind) && length == 1 {
+        kind - 1
+    } else {
+        kind
     }
-    if l == 1 { k - 1 } else { k }
 }
 
 // A set of one number becomes a sequence.
@@ -178,10 +185,8 @@ fn single_sets(kinds: &mut [u8], lengths: &[u32])
     requires { length kinds.old ≡ length lengths.now }
     ensures { kinds.new ≡ map (λ x. single_kind x.kind x.length) (entries kinds.old lengths.now) }
 {
-    let mut i = 0;
-    while i < kinds.len() {
-        kinds[i] = single_kind(kinds[i], lengths[i]);
-        i += 1;
+    for (i, kind) in kinds.iter_mut().enumerate() {
+        *kind = single_kind(*kind, lengths[i]);
     }
 }
 
@@ -190,28 +195,20 @@ fn sort_sets(kinds: &[u8], lengths: &[u32], numbers: &mut [u32])
     requires { (length kinds.now ≡ length lengths.now) × (sum lengths.now ≡ length numbers.old) }
     ensures { numbers.new ≡ numbers_of (map sort_set (cut kinds.now lengths.now numbers.old)) }
 {
-    let mut i = 0;
     let mut at = 0;
-    while i < kinds.len() {
-        let from = at;
-        at += lengths[i] as usize;
-        let sequence = is_sequence(kinds[i]);
-        i += 1;
-        if !sequence {
-            sort::sort_u32(&mut numbers[from..at]);
+    for (kind, length) in kinds.iter().zip(lengths) {
+        let end = at + *length as usize;
+        let is_set = !is_sequence(*kind);
+        if is_set {
+            sort::sort_u32(&mut numbers[at..end]);
         }
+        at = end;
     }
 }
 
-#[derive(Clone, Copy)]
-struct Sizes {
-    segments: usize,
-    numbers: usize,
-}
-
-// AsPath::dedup_coalesce of a record that fills its lists. The scan joins numbers as they stand, so the repeats at its seams are
-// removed behind it.
-fn normalise(kinds: &mut [u8], lengths: &mut [u32], numbers: &mut [u32]) -> Sizes
+// AsPath::dedup_coalesce of a record that fills its lists. The scan joins numbers as they stand, so
+// the repeats at its seams are removed behind it.
+fn normalise(kinds: &mut [u8], lengths: &mut [u32], numbers: &mut [u32]) -> Counts
     requires { Fit kinds.old lengths.old numbers.old }
     ensures { NormalIn kinds.old lengths.old numbers.old kinds.new lengths.new numbers.new result.segments result.numbers }
 {
@@ -220,32 +217,37 @@ fn normalise(kinds: &mut [u8], lengths: &mut [u32], numbers: &mut [u32]) -> Size
     single_sets(kinds, lengths);
     let segments = coalesce_entries(kinds, lengths);
     let left = dedup_segments(&mut lengths[..segments], &mut numbers[..count]);
-    Sizes {
+    Counts {
         segments,
         numbers: left,
     }
 }
 
 // AsPath::dedup_coalesce
+#[tactic(auto, using(crate::proofs::Answers::kinds_there, crate::proofs::Answers::lengths_there, crate::proofs::Answers::numbers_there))]
 pub fn dedup_coalesce(
     kinds: &mut [u8],
     lengths: &mut [u32],
     numbers: &mut [u32],
     segments: usize,
     count: usize,
-) -> Normalised
+) -> Result<Counts, Spoilt>
     ensures value { result ≡ counts dedup_coalesce (path kinds.old lengths.old numbers.old segments count) }
     ensures kinds { kinds.new ≡ after (λ p. kinds_of (dedup_coalesce p)) (path kinds.old lengths.old numbers.old segments count) segments kinds.old }
     ensures lengths { lengths.new ≡ after (λ p. lengths_of (dedup_coalesce p)) (path kinds.old lengths.old numbers.old segments count) segments lengths.old }
     ensures numbers { numbers.new ≡ after (λ p. numbers_of (dedup_coalesce p)) (path kinds.old lengths.old numbers.old segments count) count numbers.old }
 {
-    if aspath::is_spoilt(kinds, lengths, numbers, segments, count) {
-        return Normalised::Spoilt;
+    PathRecord {
+        kinds,
+        lengths,
+        numbers,
+        segments,
+        count,
     }
-    let left = normalise(
+    .check()?;
+    Ok(normalise(
         &mut kinds[..segments],
         &mut lengths[..segments],
         &mut numbers[..count],
-    );
-    Normalised::Counts(left.segments, left.numbers)
+    ))
 }

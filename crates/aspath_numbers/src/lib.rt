@@ -1,120 +1,67 @@
-// Which numbers a path has: whether one is among them, the last one (its origin), the first one (its collector).
+// Which numbers a path has: whether one is among them, the last one (its origin), the first one
+// (its collector).
 #![tactic(auto)]
 
-ghost use Rattle.std.specs.Prelude.{◌≡◌, false, eqb};
-ghost use Rattle.aspath.specs.Lists.{any};
-ghost use Rattle.aspath.specs.Record.{spoilt, path};
-ghost use Rattle.aspath_numbers.specs.Numbers.{contains_answer, single, origin_answer, collector_answer};
+ghost use Rattle.std.specs.Prelude.{◌≡◌, ◌-◌, length, slice_get, option_map};
+ghost use Rattle.aspath.specs.Segments.{kind_number, segment_of, segments_in, path_of};
+ghost use Rattle.aspath_numbers.specs.Numbers.{contains_answer, single, origin_of, origin_answer, collector_of, collector_answer};
 
-#[derive(Clone, Copy)]
-pub enum Contains {
-    Is(bool),
-    Spoilt,
-}
+use aspath::{AsPath, PathRecord, Segment, SegmentKind, Spoilt};
 
-// What a call on the first or the last number answers.
-#[derive(Clone, Copy)]
-pub enum End {
-    Number(u32),
-    Nothing,
-    Spoilt,
-}
-
-fn has_number(numbers: &[u32], asn: u32) -> bool
-    ensures { result ≡ any (λ n. eqb n asn) numbers.now }
+pub fn contains_asn(lent: PathRecord, asn: u32) -> Result<bool, Spoilt>
+    ensures { result ≡ contains_answer asn (path_of lent.entry) }
 {
-    let mut found = false;
-    let mut i = 0;
-    while i < numbers.len() {
-        found = found | (numbers[i] == asn);
-        i += 1;
+    let path = lent.check()?;
+    Ok(path.numbers.contains(&asn))
+}
+
+// Whether a segment has one number at its end: no set of several does.
+fn is_single(segment: Segment) -> bool
+    ensures { result ≡ single (kind_number segment.entry.kind) (length segment.entry.numbers.now) }
+{
+    match segment.kind {
+        SegmentKind::AsSequence => 0 < segment.numbers.len(),
+        SegmentKind::AsSet => segment.numbers.len() == 1,
+        SegmentKind::ConfedSequence | SegmentKind::ConfedSet => false,
     }
-    found
 }
 
-pub fn contains_asn(
-    kinds: &[u8],
-    lengths: &[u32],
-    numbers: &[u32],
-    segments: usize,
-    count: usize,
-    asn: u32,
-) -> Contains
-    ensures { result ≡ contains_answer asn (path kinds.now lengths.now numbers.now segments count) }
+fn last_segment<'a>(path: AsPath<'a>) -> Option<Segment<'a>>
+    ensures { option_map segment_of result ≡ slice_get (segments_in path.entry) (length (segments_in path.entry) - 1) }
 {
-    if aspath::is_spoilt(kinds, lengths, numbers, segments, count) {
-        return Contains::Spoilt;
-    }
-    Contains::Is(has_number(&numbers[..count], asn))
+    path.segments().last()
 }
 
-// Whether a segment of this kind and length has one number at its end: no set of several does.
-fn is_single(kind: u8, length: u32) -> bool
-    ensures { result ≡ single kind length }
+fn origin(path: AsPath) -> Option<u32>
+    ensures { result ≡ origin_of (slice_get (segments_in path.entry) (length (segments_in path.entry) - 1)) }
 {
-    ((kind == 0) & (0 < length)) | ((kind == 1) & (length == 1))
-}
-
-fn last_number(kinds: &[u8], lengths: &[u32], numbers: &[u32], segments: usize, count: usize) -> End
-    requires { spoilt kinds.now lengths.now numbers.now segments count ≡ false }
-    ensures { result ≡ origin_answer (path kinds.now lengths.now numbers.now segments count) }
-{
-    if segments == 0 {
-        return End::Nothing;
-    }
-    if is_single(kinds[segments - 1], lengths[segments - 1]) {
-        End::Number(numbers[count - 1])
+    let last = last_segment(path)?;
+    if is_single(last) {
+        last.numbers.last().copied()
     } else {
-        End::Nothing
+        None
     }
 }
 
-pub fn get_origin_opt(
-    kinds: &[u8],
-    lengths: &[u32],
-    numbers: &[u32],
-    segments: usize,
-    count: usize,
-) -> End
-    ensures { result ≡ origin_answer (path kinds.now lengths.now numbers.now segments count) }
+pub fn get_origin_opt(lent: PathRecord) -> Result<Option<u32>, Spoilt>
+    ensures { result ≡ origin_answer (path_of lent.entry) }
 {
-    if aspath::is_spoilt(kinds, lengths, numbers, segments, count) {
-        return End::Spoilt;
-    }
-    last_number(kinds, lengths, numbers, segments, count)
+    Ok(origin(lent.check()?))
 }
 
-fn first_number(
-    kinds: &[u8],
-    lengths: &[u32],
-    numbers: &[u32],
-    segments: usize,
-    count: usize,
-) -> End
-    requires { spoilt kinds.now lengths.now numbers.now segments count ≡ false }
-    ensures { result ≡ collector_answer (path kinds.now lengths.now numbers.now segments count) }
+fn collector(path: AsPath) -> Option<u32>
+    ensures { result ≡ collector_of (slice_get (segments_in path.entry) 0) }
 {
-    if segments == 0 {
-        return End::Nothing;
-    }
-    if is_single(kinds[0], lengths[0]) {
-        End::Number(numbers[0])
+    let (first, _) = path.split_first()?;
+    if is_single(first) {
+        first.numbers.first().copied()
     } else {
-        End::Nothing
+        None
     }
 }
 
-pub fn get_collector_opt(
-    kinds: &[u8],
-    lengths: &[u32],
-    numbers: &[u32],
-    segments: usize,
-    count: usize,
-) -> End
-    ensures { result ≡ collector_answer (path kinds.now lengths.now numbers.now segments count) }
+pub fn get_collector_opt(lent: PathRecord) -> Result<Option<u32>, Spoilt>
+    ensures { result ≡ collector_answer (path_of lent.entry) }
 {
-    if aspath::is_spoilt(kinds, lengths, numbers, segments, count) {
-        return End::Spoilt;
-    }
-    first_number(kinds, lengths, numbers, segments, count)
+    Ok(collector(lent.check()?))
 }

@@ -1,76 +1,70 @@
--- Laws of dropping repeats: one for each way through the loop.
-use mathlib.Core.Path.{◌≡◌, refl, sym, ap, ◌∙◌}
+-- Laws of dropping repeats, for a loop that remembers the number before, if any.
+use mathlib.Core.Path.{◌≡◌, refl, ap, ◌∙◌}
 use mathlib.Core.List.{List, [], ◌∷◌, ◌++◌}
 use mathlib.Core.Bool.{Bool, true, false, cond, not, ◌&&◌}
-use Prim.Native.Nat.{ℕ, ◌+◌, ◌≤◌, ◌<◌}
+use Prim.Native.Nat.{ℕ, suc, ◌+◌, ◌≤◌, ◌<◌}
 use native.Mathlib.Numerals.{add-one}
 use native.Mathlib.Omega.{arith}
 use lib.ListN.{length, get_or, drop, drop_of_length-le}
 use lib.Seq.{drop-cons}
 use lib.Dec.{eqb}
-use borrow.Author.Tests.{not-true, not-false}
+use Rattle.std.specs.Prelude.{Option, Some, None}
 use Rattle.output.specs.Output.{Written}
-use Rattle.output.proofs.Output.{Left, next_left_lem, none_left, nothing, then}
-use Rattle.aspath_routes.specs.Runs.{after, runs}
+use Rattle.output.proofs.Output.{Left, next_left_lem, none_left}
+use Rattle.aspath_routes.specs.Runs.{after, runs, stays}
 
-pub runs_none : (d : Bool) (s : List ℕ) → length s ≡ 0 → runs d s ≡ []
-unfolding runs
-runs_none d [] e = refl
-runs_none d (a ∷ s) e = absurd (omega arith)
+-- what stays of the numbers that are left
+abbrev pub rest_of : Bool → Option ℕ → List ℕ → List ℕ
+rest_of d None l = runs d l
+rest_of d (Some prev) l = after d prev l
 
-runs_first : (d : Bool) (s : List ℕ) → (length s ≡ 0 → ⊥) → runs d s ≡ (get_or s 0 0 ∷ []) ++ after d (get_or s 0 0) (drop 1 s)
-unfolding runs
-runs_first d [] e = absurd (e refl)
-runs_first d (a ∷ s) e = refl
+rest_first : (d : Bool) (prev : Option ℕ) (a : ℕ) (l : List ℕ) → rest_of d prev (a ∷ l) ≡ cond (stays d prev a) (a ∷ rest_of d (Some a) l) (rest_of d (Some a) l)
+unfolding runs after
+rest_first d None a l = refl
+rest_first d (Some prev) a l = go (d && eqb a prev)
+  where
+    go : (t : Bool) → cond t (after d a l) (a ∷ after d a l) ≡ cond (not t) (a ∷ after d a l) (after d a l)
+    go true = refl
+    go false = refl
 
-module _ (d : Bool) (s : List ℕ) (j prev : ℕ) where
-  after_end : length s ≤ j → after d prev (drop j s) ≡ []
-  unfolding after
-  after_end h = rw (drop_of_length-le s h)
+rest_none : (d : Bool) (prev : Option ℕ) → rest_of d prev [] ≡ []
+unfolding runs after
+rest_none d None = refl
+rest_none d (Some prev) = refl
 
-  module _ (h : j < length s) where
-    after_more : after d prev (drop j s) ≡ cond (d && eqb (get_or s j 0) prev) (after d (get_or s j 0) (drop (j + 1) s)) (get_or s j 0 ∷ after d (get_or s j 0) (drop (j + 1) s))
-    unfolding after
-    after_more = rw (add-one, drop-cons s j 0)
+module _ (d : Bool) (s : List ℕ) (j : ℕ) (prev : Option ℕ) where
+  rest_end : length s ≤ j → rest_of d prev (drop j s) ≡ []
+  rest_end h = rw (drop_of_length-le s h) (rest_none d prev)
 
-    after_repeat : not (d && eqb (get_or s j 0) prev) ≡ false → after d prev (drop j s) ≡ after d (get_or s j 0) (drop (j + 1) s)
-    after_repeat t = after_more ∙ rw (not-false (d && eqb (get_or s j 0) prev) t)
+  module _ (kept : Bool) (is : kept ≡ stays d prev (get_or s j 0)) (h : j < length s) where
+    rest_more : rest_of d prev (drop j s) ≡ cond kept (get_or s j 0 ∷ rest_of d (Some (get_or s j 0)) (drop (j + 1) s)) (rest_of d (Some (get_or s j 0)) (drop (j + 1) s))
+    rest_more = rw (add-one, drop-cons s j 0, is) (rest_first d prev (get_or s j 0) (drop (suc j) s))
 
-    after_new : not (d && eqb (get_or s j 0) prev) ≡ true → after d prev (drop j s) ≡ (get_or s j 0 ∷ []) ++ after d (get_or s j 0) (drop (j + 1) s)
-    after_new t = after_more ∙ rw (not-true (d && eqb (get_or s j 0) prev) t)
+    rest_repeat : kept ≡ false → rest_of d prev (drop j s) ≡ rest_of d (Some (get_or s j 0)) (drop (j + 1) s)
+    rest_repeat t = rest_more ∙ rw t
 
--- counted
-pub count_none : (d : Bool) (s : List ℕ) → length s ≡ 0 → 0 ≡ length (runs d s)
-count_none d s e = sym (ap length (runs_none d s e))
+    rest_new : kept ≡ true → rest_of d prev (drop j s) ≡ (get_or s j 0 ∷ []) ++ rest_of d (Some (get_or s j 0)) (drop (j + 1) s)
+    rest_new t = rest_more ∙ rw t
 
-pub count_first : (d : Bool) (s : List ℕ) → (length s ≡ 0 → ⊥) → length (runs d s) ≡ 1 + length (after d (get_or s 0 0) (drop 1 s))
-count_first d s e = omega (arith, ap length (runs_first d s e))
+    -- counted
+    module _ (n : ℕ) (known : length (runs d s) ≡ n + length (rest_of d prev (drop j s))) where
+      pub count_repeat : kept ≡ false → length (runs d s) ≡ n + length (rest_of d (Some (get_or s j 0)) (drop (j + 1) s))
+      count_repeat t = rw (← rest_repeat t) known
 
-module _ (d : Bool) (s : List ℕ) (j prev n : ℕ) (known : length (runs d s) ≡ n + length (after d prev (drop j s))) where
-  pub count_end : length s ≤ j → n ≡ length (runs d s)
-  count_end h = omega (arith, ap length (after_end d s j prev h))
+      pub count_new : kept ≡ true → length (runs d s) ≡ n + 1 + length (rest_of d (Some (get_or s j 0)) (drop (j + 1) s))
+      count_new t = omega (arith, ap length (rest_new t))
 
-  pub count_repeat : j < length s → not (d && eqb (get_or s j 0) prev) ≡ false → length (runs d s) ≡ n + length (after d (get_or s j 0) (drop (j + 1) s))
-  count_repeat h t = rw (← after_repeat d s j prev h t) known
+    -- written
+    module _ (t out₀ out : List ℕ) (at₀ at : ℕ) (known : Left t out₀ at₀ (rest_of d prev (drop j s)) out at) where
+      pub write_repeat : kept ≡ false → Left t out₀ at₀ (rest_of d (Some (get_or s j 0)) (drop (j + 1) s)) out at
+      write_repeat e = rw (← rest_repeat e) known
 
-  pub count_new : j < length s → not (d && eqb (get_or s j 0) prev) ≡ true → length (runs d s) ≡ n + 1 + length (after d (get_or s j 0) (drop (j + 1) s))
-  count_new h t = omega (arith, ap length (after_new d s j prev h t))
+      pub write_new : kept ≡ true → (o : List ℕ) (a : ℕ) → Written (get_or s j 0 ∷ []) out at o a
+          → Left t out₀ at₀ (rest_of d (Some (get_or s j 0)) (drop (j + 1) s)) o a
+      write_new e o a w = next_left_lem (rw (← rest_new e) known) w
 
--- written
-pub write_none : (d : Bool) (s out : List ℕ) (at : ℕ) → length s ≡ 0 → Written (runs d s) out at out at
-write_none d s out at e = rw (runs_none d s e) (nothing out at)
+  pub count_end : (n : ℕ) → length (runs d s) ≡ n + length (rest_of d prev (drop j s)) → length s ≤ j → n ≡ length (runs d s)
+  count_end n known h = omega (arith, ap length (rest_end h))
 
-pub write_first : (d : Bool) (s out o₁ o₂ : List ℕ) (at a b : ℕ) → (length s ≡ 0 → ⊥) → Written (get_or s 0 0 ∷ []) out at o₁ a
-    → Written (after d (get_or s 0 0) (drop 1 s)) o₁ a o₂ b → Written (runs d s) out at o₂ b
-write_first d s out o₁ o₂ at a b e v w = rw (runs_first d s e) (then v w)
-
-module _ (d : Bool) (s : List ℕ) (j prev : ℕ) (t out₀ out : List ℕ) (at₀ at : ℕ) (known : Left t out₀ at₀ (after d prev (drop j s)) out at) where
-  pub write_end : length s ≤ j → Written t out₀ at₀ out at
-  write_end h = none_left (rw (← after_end d s j prev h) known)
-
-  pub write_repeat : j < length s → not (d && eqb (get_or s j 0) prev) ≡ false → Left t out₀ at₀ (after d (get_or s j 0) (drop (j + 1) s)) out at
-  write_repeat h e = rw (← after_repeat d s j prev h e) known
-
-  pub write_new : j < length s → not (d && eqb (get_or s j 0) prev) ≡ true → (o : List ℕ) (a : ℕ) → Written (get_or s j 0 ∷ []) out at o a
-      → Left t out₀ at₀ (after d (get_or s j 0) (drop (j + 1) s)) o a
-  write_new h e o a w = next_left_lem (rw (← after_new d s j prev h e) known) w
+  pub write_end : (t out₀ out : List ℕ) (at₀ at : ℕ) → Left t out₀ at₀ (rest_of d prev (drop j s)) out at → length s ≤ j → Written t out₀ at₀ out at
+  write_end t out₀ out at₀ at known h = none_left (rw (← rest_end h) known)

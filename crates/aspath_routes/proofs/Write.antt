@@ -1,17 +1,19 @@
 -- Laws of writing a route.
-use mathlib.Core.Path.{◌≡◌, refl, ap}
+use mathlib.Core.Path.{◌≡◌, refl}
 use mathlib.Core.List.{List, [], ◌∷◌, ◌++◌}
 use mathlib.Core.Bool.{false}
-use Prim.Native.Nat.{ℕ, ◌+◌, ◌-◌, ◌/◌, ◌%◌, ◌≤◌, ◌<◌}
+use mathlib.Core.Logic.{◌⊎◌, ⊎_elim}
+use Prim.Native.Nat.{ℕ, ◌/◌, ◌%◌, ◌<◌}
 use native.Mathlib.Nat.{mod-lt, pos_of_ne-zero}
 use native.Mathlib.Omega.{arith}
-use lib.ListN.{length, get_or, take, drop, drop_of_length-le}
-use borrow.Author.Tests.{eq-eqb, ne_eqb, le-ltb, lt-ltb}
+use lib.ListN.{length, get_or}
+use borrow.Author.Tests.{le-ltb, lt-ltb}
 use Rattle.output.specs.Output.{Written}
 use Rattle.output.proofs.Output.{nothing, Left, next_left_lem, none_left}
-use Rattle.aspath.specs.Record.{spoilt, segments_of}
-use Rattle.aspath.proofs.Record.{segments_count, kind_at, length_at}
-use Rattle.aspath.proofs.Walk.{Place, segment_next, numbers_here}
+use Rattle.aspath.specs.Record.{Segment}
+use Rattle.aspath.specs.Segments.{kind_number}
+use Rattle.aspath.specs.declared.SegmentKind.{SegmentKind}
+use Rattle.aspath.specs.declared.SegmentKind.TheVariants.{AsSequence, ConfedSequence, ConfedSet}
 use Rattle.aspath_routes.specs.Runs.{after, runs}
 use Rattle.aspath_routes.specs.Routes.{taken, left, numbered}
 
@@ -26,57 +28,40 @@ unfolding runs
 runs_all [] = refl
 runs_all (a ∷ s) = rw (after_all a s)
 
--- what a route takes from a segment: one law for each way
-module _ (kind : ℕ) (part : List ℕ) (k : ℕ) (out o : List ℕ) (at a : ℕ) where
-  pub taken_sequence : kind ≡ 0 → Written (runs false part) out at o a → Written (taken kind part k) out at o a
-  taken_sequence e w = rw (eq-eqb kind 0 e, ← runs_all part) w
+-- what a route takes from a sequence, and from a confederation's segment
+module _ (kind : SegmentKind) (part : List ℕ) (k : ℕ) (out o : List ℕ) (at a : ℕ) where
+  pub taken_sequence : kind ≡ AsSequence → Written (runs false part) out at o a → Written (taken (kind_number kind) part k) out at o a
+  taken_sequence e w = rw (e, ← runs_all part) w
 
-  module _ (n : kind ≡ 0 → ⊥) where
-    pub taken_none : (kind ≡ 1 → ⊥) → Written (taken kind part k) out at out at
-    taken_none m = rw (ne_eqb kind 0 n, ne_eqb kind 1 m) (nothing out at)
+  pub taken_nothing : (kind ≡ ConfedSequence) ⊎ (kind ≡ ConfedSet) → Written (taken (kind_number kind) part k) out at out at
+  taken_nothing e = ⊎_elim (λ z. rw z (nothing out at)) (λ z. rw z (nothing out at)) e
 
-    module _ (m : kind ≡ 1) where
-      pub taken_empty : length part ≡ 0 → Written (0 ∷ []) out at o a → Written (taken kind part k) out at o a
-      taken_empty z w = rw (ne_eqb kind 0 n, eq-eqb kind 1 m) (rw (empty part z) w)
-        where
-          empty : (s : List ℕ) → length s ≡ 0 → get_or s (k % length s) 0 ≡ 0
-          empty [] e = refl
-          empty (b ∷ s) e = absurd (omega arith)
-
-      pub taken_choice : Written (get_or part (k % length part) 0 ∷ []) out at o a → Written (taken kind part k) out at o a
-      taken_choice w = rw (ne_eqb kind 0 n, eq-eqb kind 1 m) w
+-- and from a set
+pub none_taken : (part : List ℕ) (k : ℕ) → length part ≡ 0 → get_or part (k % length part) 0 ≡ 0
+none_taken [] k e = refl
+none_taken (b ∷ part) k e = absurd (omega arith)
 
 -- the chosen number is there
 pub choice_inside : (s : List ℕ) (k : ℕ) → (length s ≡ 0 → ⊥) → k % length s < length s
 choice_inside s k n = mod-lt k (pos_of_ne-zero n)
 
--- the number that is left
-module _ (kind l k : ℕ) where
-  pub left_other : (kind ≡ 1 → ⊥) → k ≡ left kind l k
-  left_other n = simp (ne_eqb kind 1 n)
+-- the number that is left behind a set
+pub left_empty : (l k : ℕ) → l ≡ 0 → k ≡ left 1 l k
+left_empty l k z = simp (le-ltb 0 l (omega arith))
 
-  module _ (m : kind ≡ 1) where
-    pub left_empty : l ≡ 0 → k ≡ left kind l k
-    left_empty z = simp (eq-eqb kind 1 m, le-ltb 0 l (omega arith))
-
-    pub left_set : (l ≡ 0 → ⊥) → k / l ≡ left kind l k
-    left_set z = simp (eq-eqb kind 1 m, lt-ltb 0 l (pos_of_ne-zero z))
+pub left_set : (l k : ℕ) → (l ≡ 0 → ⊥) → k / l ≡ left 1 l k
+left_set l k z = simp (lt-ltb 0 l (pos_of_ne-zero z))
 
 -- a route through one segment more, and through no more
-module _ (ks ls ns : List ℕ) (s n : ℕ) (sound : spoilt ks ls ns s n ≡ false) (i from k : ℕ) (here : Place ks ls ns s n i from)
-    (t out₀ out : List ℕ) (at₀ at : ℕ) (known : Left t out₀ at₀ (numbered (drop i (segments_of ks ls ns s n)) k) out at) where
-  route_next : i < s → numbered (drop i (segments_of ks ls ns s n)) k
-      ≡ taken (get_or ks i 0) (take (from + get_or ls i 0 - from) (drop from ns)) k ++ numbered (drop (i + 1) (segments_of ks ls ns s n)) (left (get_or ks i 0) (get_or ls i 0) k)
+module _ (behind rest : List Segment) (x : Segment) (first : behind ≡ x ∷ rest) (k : ℕ) where
+  route_first : numbered behind k ≡ taken x.kind x.numbers k ++ numbered rest (left x.kind (length x.numbers) k)
   unfolding numbered
-  route_next h =
-      rw (numbers_here ks ls ns s n sound i from here h, ← kind_at ks ls ns s n sound i h, ← length_at ks ls ns s n sound i h)
-      (ap (λ q. numbered q k) (segment_next ks ls ns s n sound i from here h))
+  route_first = rw first
 
-  pub route_more : i < s → (o : List ℕ) (a v : ℕ) → Written (taken (get_or ks i 0) (take (from + get_or ls i 0 - from) (drop from ns)) k) out at o a
-      → v ≡ left (get_or ks i 0) (get_or ls i 0) k → Left t out₀ at₀ (numbered (drop (i + 1) (segments_of ks ls ns s n)) v) o a
-  route_more h o a v w e = rw e (next_left_lem (rw (← route_next h) known) w)
+  pub route_step : (t out₀ out o : List ℕ) (at₀ at a v : ℕ) → Left t out₀ at₀ (numbered behind k) out at → Written (taken x.kind x.numbers k) out at o a
+      → v ≡ left x.kind (length x.numbers) k → Left t out₀ at₀ (numbered rest v) o a
+  route_step t out₀ out o at₀ at a v known w e = rw e (next_left_lem (rw route_first at known) w)
 
-  pub route_end : s ≤ i → Written t out₀ at₀ out at
-  unfolding numbered
-  route_end h =
-      none_left (rw (drop_of_length-le (segments_of ks ls ns s n) {i = i} (omega (arith, segments_count ks ls ns s n sound))) at known)
+pub route_done : (behind : List Segment) (k : ℕ) (t out₀ out : List ℕ) (at₀ at : ℕ) → Left t out₀ at₀ (numbered behind k) out at → behind ≡ [] → Written t out₀ at₀ out at
+unfolding numbered
+route_done behind k t out₀ out at₀ at known none = none_left (rw none at known)

@@ -1,22 +1,60 @@
 // A path's numbers written into lent places.
 #![tactic(auto)]
 
-ghost use Rattle.std.specs.Prelude.{◌≡◌, false, [], ◌∷◌, length};
+ghost use Rattle.std.specs.Prelude.{◌≡◌, [], ◌∷◌, length};
 ghost use Rattle.output.specs.Output.{Written};
-ghost use Rattle.aspath.specs.Record.{spoilt, segments_of, path};
-ghost use Rattle.aspath.specs.Queries.{variations_answer};
-ghost use Rattle.aspath_routes.specs.Runs.{runs};
-ghost use Rattle.aspath_routes.specs.Joined.{all_simple, joined, Answered};
+ghost use Rattle.aspath.specs.Segments.{kind_number, segments_in, path_of};
+ghost use Rattle.aspath_routes.specs.Runs.{stays, runs};
+ghost use Rattle.aspath_routes.specs.Joined.{simple, all_simple, joined, Answered};
 ghost use Rattle.aspath_routes.specs.Routes.{taken, left, numbered, Routed};
 
-use aspath::{RouteLen, Variations};
+use aspath::{AsPath, PathRecord, Segment, SegmentKind, Spoilt, VariationsError};
 
-#[derive(Clone, Copy)]
-pub enum U32Vec {
-    Count(usize),
-    Nothing,
+#[derive(Debug, Clone, Copy, PartialEq, Eq)]
+pub enum NumbersError {
     FewPlaces,
     Spoilt,
+}
+
+impl From<Spoilt> for NumbersError {
+    ghost use Rattle.aspath_routes.specs.declared.NumbersError.TheVariants.{Spoilt};
+
+    ghost from_gives = { λ _ e. e ≡ Spoilt };
+
+    fn from(_spoilt: Spoilt) -> NumbersError {
+        NumbersError::Spoilt
+    }
+}
+
+#[derive(Debug, Clone, Copy, PartialEq, Eq)]
+pub enum RouteError {
+    FewPlaces,
+    NoSuchRoute,
+    TooMany,
+    Spoilt,
+}
+
+impl From<Spoilt> for RouteError {
+    ghost use Rattle.aspath_routes.specs.declared.RouteError.TheVariants.{Spoilt};
+
+    ghost from_gives = { λ _ e. e ≡ Spoilt };
+
+    fn from(_spoilt: Spoilt) -> RouteError {
+        RouteError::Spoilt
+    }
+}
+
+impl From<VariationsError> for RouteError {
+    ghost use Rattle.aspath_routes.specs.Routes.{route_refusal};
+
+    ghost from_gives = { λ refusal e. e ≡ route_refusal refusal };
+
+    fn from(refusal: VariationsError) -> RouteError {
+        match refusal {
+            VariationsError::Spoilt => RouteError::Spoilt,
+            VariationsError::TooMany => RouteError::TooMany,
+        }
+    }
 }
 
 // A writer of one number, where there is a place (output's Output).
@@ -31,21 +69,25 @@ fn write_number(a: u32, out: &mut [u32], at: usize) -> usize
     }
 }
 
+// Whether a number stays behind the one before it, if any.
+fn stays(dedup: bool, previous: Option<u32>, number: u32) -> bool
+    ensures { result ≡ stays dedup previous number }
+{
+    match previous {
+        Some(last) => !(dedup & (number == last)),
+        None => true,
+    }
+}
+
 fn count_runs(numbers: &[u32], dedup: bool) -> usize
     ensures { result ≡ length (runs dedup numbers.now) }
 {
-    if numbers.len() == 0 {
-        return 0;
-    }
-    let mut prev = numbers[0];
-    let mut n = 1;
-    let mut j = 1;
-    while j < numbers.len() {
-        let a = numbers[j];
-        let repeated = dedup & (a == prev);
-        prev = a;
-        j += 1;
-        if !repeated {
+    let mut previous = None;
+    let mut n = 0;
+    for number in numbers {
+        let kept = stays(dedup, previous, *number);
+        previous = Some(*number);
+        if kept {
             n += 1;
         }
     }
@@ -55,222 +97,132 @@ fn count_runs(numbers: &[u32], dedup: bool) -> usize
 fn write_runs(numbers: &[u32], dedup: bool, out: &mut [u32], at: usize) -> usize
     ensures { Written (runs dedup numbers.now) out.old at out.new result }
 {
-    if numbers.len() == 0 {
-        return at;
-    }
-    let mut prev = numbers[0];
-    let mut place = write_number(prev, out, at);
-    let mut j = 1;
-    while j < numbers.len() {
-        let a = numbers[j];
-        let repeated = dedup & (a == prev);
-        prev = a;
-        j += 1;
-        if !repeated {
-            place = write_number(a, out, place);
+    let mut previous = None;
+    let mut place = at;
+    for number in numbers {
+        let kept = stays(dedup, previous, *number);
+        previous = Some(*number);
+        if kept {
+            place = write_number(*number, out, place);
         }
     }
     place
 }
 
-// Whether each segment is a list of numbers.
-fn is_simple(kinds: &[u8], lengths: &[u32], numbers: &[u32], segments: usize, count: usize) -> bool
-    requires { spoilt kinds.now lengths.now numbers.now segments count ≡ false }
-    ensures { result ≡ all_simple (segments_of kinds.now lengths.now numbers.now segments count) }
+// Whether a segment is a list of numbers.
+fn is_list(segment: Segment) -> bool
+    ensures { result ≡ simple (kind_number segment.entry.kind) (length segment.entry.numbers.now) }
 {
-    let mut simple = true;
-    let mut i = 0;
-    while i < segments {
-        simple = simple & ((kinds[i] == 0) | ((kinds[i] == 1) & (lengths[i] == 1)));
-        i += 1;
+    match segment.kind {
+        SegmentKind::AsSequence => true,
+        SegmentKind::AsSet => segment.numbers.len() == 1,
+        SegmentKind::ConfedSequence | SegmentKind::ConfedSet => false,
     }
-    simple
 }
 
-fn count_joined(
-    kinds: &[u8],
-    lengths: &[u32],
-    numbers: &[u32],
-    segments: usize,
-    count: usize,
-    dedup: bool,
-) -> usize
-    requires { spoilt kinds.now lengths.now numbers.now segments count ≡ false }
-    ensures { result ≡ length (joined dedup (segments_of kinds.now lengths.now numbers.now segments count)) }
+fn is_simple(path: AsPath) -> bool
+    ensures { result ≡ all_simple (segments_in path.entry) }
+{
+    path.segments().all(|segment| is_list(segment))
+}
+
+fn count_joined(path: AsPath, dedup: bool) -> usize
+    ensures { result ≡ length (joined dedup (segments_in path.entry)) }
 {
     let mut n = 0;
-    let mut from = 0;
-    let mut i = 0;
-    while i < segments {
-        let end = from + lengths[i] as usize;
-        n += count_runs(&numbers[from..end], dedup);
-        from = end;
-        i += 1;
+    for segment in path.segments() {
+        n += count_runs(segment.numbers, dedup);
     }
     n
 }
 
-fn write_joined(
-    kinds: &[u8],
-    lengths: &[u32],
-    numbers: &[u32],
-    segments: usize,
-    count: usize,
-    dedup: bool,
-    out: &mut [u32],
-) -> usize
-    requires { spoilt kinds.now lengths.now numbers.now segments count ≡ false }
-    ensures { Written (joined dedup (segments_of kinds.now lengths.now numbers.now segments count)) out.old 0 out.new result }
+fn write_joined(path: AsPath, dedup: bool, out: &mut [u32]) -> usize
+    ensures { Written (joined dedup (segments_in path.entry)) out.old 0 out.new result }
 {
     let mut place = 0;
-    let mut from = 0;
-    let mut i = 0;
-    while i < segments {
-        let end = from + lengths[i] as usize;
-        place = write_runs(&numbers[from..end], dedup, out, place);
-        from = end;
-        i += 1;
+    for segment in path.segments() {
+        place = write_runs(segment.numbers, dedup, out, place);
     }
     place
 }
 
 pub fn to_u32_vec_opt(
-    kinds: &[u8],
-    lengths: &[u32],
-    numbers: &[u32],
-    segments: usize,
-    count: usize,
+    lent: PathRecord,
     dedup: bool,
     out: &mut [u32],
-) -> U32Vec
-    ensures { Answered dedup (path kinds.now lengths.now numbers.now segments count) out.old result out.new }
+) -> Result<Option<usize>, NumbersError>
+    ensures { Answered dedup (path_of lent.entry) out.old result out.new }
 {
-    if aspath::is_spoilt(kinds, lengths, numbers, segments, count) {
-        return U32Vec::Spoilt;
+    let path = lent.check()?;
+    if !is_simple(path) {
+        return Ok(None);
     }
-    if !is_simple(kinds, lengths, numbers, segments, count) {
-        return U32Vec::Nothing;
-    }
-    let n = count_joined(kinds, lengths, numbers, segments, count, dedup);
+    let n = count_joined(path, dedup);
     let none = n == 0;
     if none {
-        return U32Vec::Nothing;
+        return Ok(None);
     }
     if out.len() < n {
-        return U32Vec::FewPlaces;
+        return Err(NumbersError::FewPlaces);
     }
-    write_joined(kinds, lengths, numbers, segments, count, dedup, out);
-    U32Vec::Count(n)
-}
-
-#[derive(Clone, Copy)]
-pub enum Route {
-    Count(usize),
-    FewPlaces,
-    NoSuchRoute,
-    TooMany,
-    Spoilt,
+    write_joined(path, dedup, out);
+    Ok(Some(n))
 }
 
 // What route k takes from a segment.
-fn write_taken(kind: u8, part: &[u32], k: u64, out: &mut [u32], at: usize) -> usize
-    ensures { Written (taken kind part.now k) out.old at out.new result }
+fn write_taken(segment: Segment, k: u64, out: &mut [u32], at: usize) -> usize
+    ensures { Written (taken (kind_number segment.entry.kind) segment.entry.numbers.now k) out.old at out.new result }
 {
-    if kind == 0 {
-        return write_runs(part, false, out, at);
+    let numbers = segment.numbers;
+    match segment.kind {
+        SegmentKind::AsSequence => write_runs(numbers, false, out, at),
+        SegmentKind::AsSet => {
+            if numbers.len() == 0 {
+                return write_number(0, out, at);
+            }
+            let j = k % (numbers.len() as u64);
+            write_number(numbers[j as usize], out, at)
+        }
+        SegmentKind::ConfedSequence | SegmentKind::ConfedSet => at,
     }
-    if kind != 1 {
-        return at;
-    }
-    if part.len() == 0 {
-        return write_number(0, out, at);
-    }
-    let j = k % (part.len() as u64);
-    write_number(part[j as usize], out, at)
 }
 
 // The number that is left for the segments behind it.
-fn left_of(kind: u8, length: usize, k: u64) -> u64
-    ensures { result ≡ left kind length k }
+fn left_of(segment: Segment, k: u64) -> u64
+    ensures { result ≡ left (kind_number segment.entry.kind) (length segment.entry.numbers.now) k }
 {
-    if kind != 1 {
-        return k;
+    let length = segment.numbers.len();
+    match segment.kind {
+        SegmentKind::AsSet => if length == 0 { k } else { k / (length as u64) },
+        SegmentKind::AsSequence | SegmentKind::ConfedSequence | SegmentKind::ConfedSet => k,
     }
-    if length == 0 { k } else { k / (length as u64) }
 }
 
-fn write_route(
-    kinds: &[u8],
-    lengths: &[u32],
-    numbers: &[u32],
-    segments: usize,
-    count: usize,
-    number: u64,
-    out: &mut [u32],
-) -> usize
-    requires { spoilt kinds.now lengths.now numbers.now segments count ≡ false }
-    ensures { Written (numbered (segments_of kinds.now lengths.now numbers.now segments count) number) out.old 0 out.new result }
+fn write_route(path: AsPath, number: u64, out: &mut [u32]) -> usize
+    ensures { Written (numbered (segments_in path.entry) number) out.old 0 out.new result }
 {
     let mut place = 0;
     let mut k = number;
-    let mut from = 0;
-    let mut i = 0;
-    while i < segments {
-        let kind = kinds[i];
-        let length = lengths[i] as usize;
-        let end = from + length;
-        place = write_taken(kind, &numbers[from..end], k, out, place);
-        k = left_of(kind, length, k);
-        from = end;
-        i += 1;
+    for segment in path.segments() {
+        place = write_taken(segment, k, out, place);
+        k = left_of(segment, k);
     }
     place
 }
 
-// The route of that number, of `total` routes.
-fn route_of(
-    kinds: &[u8],
-    lengths: &[u32],
-    numbers: &[u32],
-    segments: usize,
-    count: usize,
-    number: u64,
-    total: u64,
-    out: &mut [u32],
-) -> Route
-    requires { variations_answer (path kinds.now lengths.now numbers.now segments count) ≡ Variations.Count total }
-    ensures { Routed (path kinds.now lengths.now numbers.now segments count) number out.old result out.new }
-{
-    if total <= number {
-        return Route::NoSuchRoute;
-    }
-    let RouteLen::Len(n) = aspath::route_len(kinds, lengths, numbers, segments, count) else {
-        return Route::Spoilt;
-    };
-    if out.len() < n {
-        return Route::FewPlaces;
-    }
-    write_route(kinds, lengths, numbers, segments, count, number, out);
-    Route::Count(n)
-}
-
 // The route of a number, from 0: the one that iter_routes gives after so many others.
-pub fn numbered_route(
-    kinds: &[u8],
-    lengths: &[u32],
-    numbers: &[u32],
-    segments: usize,
-    count: usize,
-    number: u64,
-    out: &mut [u32],
-) -> Route
-    ensures { Routed (path kinds.now lengths.now numbers.now segments count) number out.old result out.new }
+pub fn numbered_route(lent: PathRecord, number: u64, out: &mut [u32]) -> Result<usize, RouteError>
+    ensures { Routed (path_of lent.entry) number out.old result out.new }
 {
-    match aspath::num_route_variations(kinds, lengths, numbers, segments, count) {
-        Variations::Spoilt => Route::Spoilt,
-        Variations::TooMany => Route::TooMany,
-        Variations::Count(total) => route_of(
-            kinds, lengths, numbers, segments, count, number, total, out,
-        ),
+    let path = lent.check()?;
+    let total = path.num_route_variations()?;
+    if total <= number {
+        return Err(RouteError::NoSuchRoute);
     }
+    let n = path.route_len();
+    if out.len() < n {
+        return Err(RouteError::FewPlaces);
+    }
+    write_route(path, number, out);
+    Ok(n)
 }

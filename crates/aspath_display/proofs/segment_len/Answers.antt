@@ -1,29 +1,11 @@
-use Rattle.aspath_display.proofs.Text.{one_len, three_len, sequence_len}
-use borrow.Author.Rules.{rules}
+use mathlib.Core.Logic.{⊎_elim}
+use Rattle.aspath_display.proofs.Text.{set_len, sequence_len}
 use Rattle.aspath_display.proofs.segment_len.Goals as goal
 
-ruleset laws = (one_len, three_len, sequence_len)
+pub returns-in-AsSet : goal.returns-in-AsSet
+returns-in-AsSet c =
+    let len = set_len _ _ c.numbers_len.ensures in ⊎_elim (λ e. rw e len.0) (λ e. rw e len.1) c.in-AsSet.is
 
-pub numbers_len-requires : goal.numbers_len-requires
-numbers_len-requires c = search (laws, rules)
-
-pub overflow_add-result : goal.overflow_add-result
-overflow_add-result c = search (laws, rules)
-
-pub returns-then-kind-eq1 : goal.returns-then-kind-eq1
-returns-then-kind-eq1 c = search (laws, rules)
-
-pub numbers_len-requires-then-kind-eq3 : goal.numbers_len-requires-then-kind-eq3
-numbers_len-requires-then-kind-eq3 c = search (laws, rules)
-
-pub overflow_add-result-then-kind-eq3 : goal.overflow_add-result-then-kind-eq3
-overflow_add-result-then-kind-eq3 c = search (laws, rules)
-
-pub returns-then-kind-eq3 : goal.returns-then-kind-eq3
-returns-then-kind-eq3 c = search (laws, rules)
-
-pub numbers_len-requires-2 : goal.numbers_len-requires-2
-numbers_len-requires-2 c = search (laws, rules)
-
-pub returns : goal.returns
-returns c = search (laws, rules)
+pub returns-in-AsSequence : goal.returns-in-AsSequence
+returns-in-AsSequence c =
+    let len = sequence_len _ _ c.numbers_len-in-AsSequence.ensures in ⊎_elim (λ e. rw e len.0) (λ e. rw e len.1) c.in-AsSequence.is

@@ -1,17 +1,5 @@
 use Rattle.output.proofs.Output.{then}
-use borrow.Author.Rules.{rules}
 use Rattle.aspath_display.proofs.write_number.Goals as goal
 
-ruleset laws = (then)
-
-pub write_lead-behind-requires : goal.write_lead-behind-requires
-write_lead-behind-requires c = search (laws, rules)
-
-pub write_u32-requires : goal.write_u32-requires
-write_u32-requires c = search (laws, rules)
-
-pub shape_of-out : goal.shape_of-out
-shape_of-out c = search (laws, rules)
-
 pub returns : goal.returns
-returns c = search (laws, rules)
+returns c = then c.write_lead-behind.ensures c.write_u32.ensures

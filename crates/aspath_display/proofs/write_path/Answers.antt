@@ -1,56 +1,9 @@
-use Rattle.output.proofs.Output.{all_left}
-use Rattle.aspath.proofs.Record.{kind_there, length_there}
-use Rattle.aspath.proofs.Walk.{place_start, place_next, numbers_end, place_fits, length_fits, end_fits}
-use Rattle.aspath_display.proofs.Text.{item_written, items_end}
-use borrow.Author.Rules.{rules}
+use Rattle.std.proofs.Common.{arith}
+use Rattle.aspath_display.proofs.Text.{written_step, written_done}
 use Rattle.aspath_display.proofs.write_path.Goals as goal
 
-ruleset laws = (all_left, kind_there, length_there, place_start, place_next, numbers_end, place_fits, length_fits, end_fits, items_end)
-
-pub loop-i-init : goal.loop-i-init
-loop-i-init c = search (laws, rules)
-
-pub offset_bounds-lengths-i : goal.offset_bounds-lengths-i
-offset_bounds-lengths-i c = search (laws, rules)
-
-pub bounds-lengths-i : goal.bounds-lengths-i
-bounds-lengths-i c = search (laws, rules)
-
-pub overflow_cast-end : goal.overflow_cast-end
-overflow_cast-end c = search (laws, rules)
-
-pub overflow_add-end : goal.overflow_add-end
-overflow_add-end c = search (laws, rules)
-
-pub bounds-kinds-i : goal.bounds-kinds-i
-bounds-kinds-i c = search (laws, rules)
-
-pub offset_bounds-numbers-from : goal.offset_bounds-numbers-from
-offset_bounds-numbers-from c = search (laws, rules)
-
-pub slice_bounds-write_item-count : goal.slice_bounds-write_item-count
-slice_bounds-write_item-count c = search (laws, rules)
-
-pub slice_bounds-write_item-start : goal.slice_bounds-write_item-start
-slice_bounds-write_item-start c = search (laws, rules)
-
-pub slice_bounds-write_item-end : goal.slice_bounds-write_item-end
-slice_bounds-write_item-end c = search (laws, rules)
-
-pub write_item-place-requires : goal.write_item-place-requires
-write_item-place-requires c = search (laws, rules)
-
-pub overflow_add-i : goal.overflow_add-i
-overflow_add-i c = search (laws, rules)
-
-pub loop-i-smaller : goal.loop-i-smaller
-loop-i-smaller c = search (laws, rules)
-
-pub loop-i-preserved : goal.loop-i-preserved
-loop-i-preserved c = (search rules, search rules, search place_next, search item_written)
-
-pub shape_of-out : goal.shape_of-out
-shape_of-out c = search (laws, rules)
+pub loop-segment-preserved : goal.loop-segment-preserved
+loop-segment-preserved c = (omega arith, written_step c.loop-segment.first _ _ _ c.in-Some.ensures.steps _ _ _ _ _ _ _ c.loop-segment.invariant.1 c.write_item-place.ensures)
 
 pub returns : goal.returns
-returns c = search (laws, rules)
+returns c = written_done c.loop-segment.first _ c.in-None.ensures.steps.0 _ _ _ _ _ c.loop-segment.invariant.1

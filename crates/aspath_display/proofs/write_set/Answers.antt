@@ -1,20 +1,5 @@
 use Rattle.output.proofs.Output.{then}
-use borrow.Author.Rules.{rules}
 use Rattle.aspath_display.proofs.write_set.Goals as goal
 
-ruleset laws = (then)
-
-pub write_byte-inside-requires : goal.write_byte-inside-requires
-write_byte-inside-requires c = search (laws, rules)
-
-pub write_numbers-behind-requires : goal.write_numbers-behind-requires
-write_numbers-behind-requires c = search (laws, rules)
-
-pub write_byte-requires : goal.write_byte-requires
-write_byte-requires c = search (laws, rules)
-
-pub shape_of-out : goal.shape_of-out
-shape_of-out c = search (laws, rules)
-
 pub returns : goal.returns
-returns c = search (laws, rules)
+returns c = then (then c.write_byte-inside.ensures c.write_numbers-behind.ensures) c.write_byte.ensures

@@ -1,53 +1,79 @@
-use mathlib.Core.Path.{sym}
-use lib.Seq.{length-take-le}
-use Rattle.aspath.proofs.Record.{spoilt_path}
-use Rattle.aspath_equivalence.proofs.Routing.{first_spoilt, second_spoilt, kept_first, kept_second, left_as_it_was, refused_none, unspoilt_some, counted_some, both_left, kinds_left, lengths_left, numbers_left, answered}
+use Rattle.std.proofs.Common.{sym}
+use Rattle.std.proofs.lemmas.Result.{err_from_is_err_and}
+use Rattle.aspath_equivalence.proofs.Routing.{Ensured, first_spoilt, second_spoilt, kept_first, kept_second, left_as_it_was, refused_none, both_left, counted, kinds_left, lengths_left, numbers_left, answered}
 use Rattle.aspath_equivalence.proofs.has_equivalent_routing.Goals as goal
 
-pub returns-then-is_spoilt : goal.returns-then-is_spoilt
-returns-then-is_spoilt c = record { value = second_spoilt _ _ (spoilt_path _ _ _ _ _ _ c.is_spoilt.ensures c.if-is_spoilt.true); kinds = kept_second _ _ (spoilt_path _ _ _ _ _ _ c.is_spoilt.ensures c.if-is_spoilt.true) _ _ _; lengths = kept_second _ _ (spoilt_path _ _ _ _ _ _ c.is_spoilt.ensures c.if-is_spoilt.true) _ _ _; numbers = kept_second _ _ (spoilt_path _ _ _ _ _ _ c.is_spoilt.ensures c.if-is_spoilt.true) _ _ _; kinds2 = kept_first _ _ (spoilt_path _ _ _ _ _ _ c.is_spoilt.ensures c.if-is_spoilt.true) _ _ _; lengths2 = kept_first _ _ (spoilt_path _ _ _ _ _ _ c.is_spoilt.ensures c.if-is_spoilt.true) _ _ _; numbers2 = kept_first _ _ (spoilt_path _ _ _ _ _ _ c.is_spoilt.ensures c.if-is_spoilt.true) _ _ _ }
+pub returns-in_err-check : goal.returns-in_err-check
+returns-in_err-check c =
+    let n = sym c.in_err-check.ensures in
+    let p = err_from_is_err_and c.from_residual.result c.from_residual.ensures.1 in
+    record {
+      value = rw (p.1, p.2) (second_spoilt _ _ n);
+      kinds = kept_second _ _ n _ _ _;
+      lengths = kept_second _ _ n _ _ _;
+      numbers = kept_second _ _ n _ _ _;
+      kinds2 = kept_first _ _ n _ _ _;
+      lengths2 = kept_first _ _ n _ _ _;
+      numbers2 = kept_first _ _ n _ _ _;
+    }
 
-pub returns-in_default : goal.returns-in_default
-returns-in_default c = record { value = first_spoilt _ _ (refused_none _ _ c.dedup_coalesce-first.ensures.value c.in_default.is); kinds = left_as_it_was _ _ (refused_none _ _ c.dedup_coalesce-first.ensures.value c.in_default.is) _ _ _ _ c.dedup_coalesce-first.ensures.kinds; lengths = left_as_it_was _ _ (refused_none _ _ c.dedup_coalesce-first.ensures.value c.in_default.is) _ _ _ _ c.dedup_coalesce-first.ensures.lengths; numbers = left_as_it_was _ _ (refused_none _ _ c.dedup_coalesce-first.ensures.value c.in_default.is) _ _ _ _ c.dedup_coalesce-first.ensures.numbers; kinds2 = kept_second _ _ (refused_none _ _ c.dedup_coalesce-first.ensures.value c.in_default.is) _ _ _; lengths2 = kept_second _ _ (refused_none _ _ c.dedup_coalesce-first.ensures.value c.in_default.is) _ _ _; numbers2 = kept_second _ _ (refused_none _ _ c.dedup_coalesce-first.ensures.value c.in_default.is) _ _ _ }
+pub returns-in_err-first : goal.returns-in_err-first
+returns-in_err-first c =
+    let n = refused_none _ _ c.in_err-first.ensures.value in
+    let p = err_from_is_err_and c.from_residual-in_err-first.result c.from_residual-in_err-first.ensures.1 in
+    record {
+      value = rw (p.1, p.2) (first_spoilt _ _ n);
+      kinds = left_as_it_was _ _ n _ _ _ _ c.in_err-first.ensures.kinds;
+      lengths = left_as_it_was _ _ n _ _ _ _ c.in_err-first.ensures.lengths;
+      numbers = left_as_it_was _ _ n _ _ _ _ c.in_err-first.ensures.numbers;
+      kinds2 = kept_second _ _ n _ _ _;
+      lengths2 = kept_second _ _ n _ _ _;
+      numbers2 = kept_second _ _ n _ _ _;
+    }
 
-pub returns-in_default-second : goal.returns-in_default-second
-returns-in_default-second c = absurd (unspoilt_some _ _ _ _ _ _ c.is_spoilt.ensures c.if-is_spoilt.false (refused_none _ _ c.dedup_coalesce-second.ensures.value c.in_default-second.is))
+-- the second record was tested
+pub returns-in_err-second : goal.returns-in_err-second
+returns-in_err-second c =
+    let n = refused_none _ _ c.in_err-second.ensures.value in
+    let e = c.in_ok-check.ensures in
+    absurd (cc)
 
-pub slice_bounds-same_u8-end : goal.slice_bounds-same_u8-end
-slice_bounds-same_u8-end c = kinds_left _ _ _ _ _ _ _ _ _ _ (c.dedup_coalesce-first.ensures.value, (c.dedup_coalesce-first.ensures.kinds, (c.dedup_coalesce-first.ensures.lengths, c.dedup_coalesce-first.ensures.numbers))) _ _ c.in-Counts.is
+pub new-form-requires : goal.new-form-requires
+new-form-requires c =
+    let e = c.in_ok-first.ensures in
+    let h : Ensured _ _ _ _ _ _ _ _ _ _ = record { value = e.value; kinds = e.kinds; lengths = e.lengths; numbers = e.numbers } in (
+      kinds_left _ _ _ _ _ _ _ _ _ _ h,
+      lengths_left _ _ _ _ _ _ _ _ _ _ h,
+      numbers_left _ _ _ _ _ _ _ _ _ _ h,
+    )
 
-pub slice_bounds-same_u8-end-2 : goal.slice_bounds-same_u8-end-2
-slice_bounds-same_u8-end-2 c = sym (length-take-le _ _ (kinds_left _ _ _ _ _ _ _ _ _ _ (c.dedup_coalesce-first.ensures.value, (c.dedup_coalesce-first.ensures.kinds, (c.dedup_coalesce-first.ensures.lengths, c.dedup_coalesce-first.ensures.numbers))) _ _ c.in-Counts.is))
-
-pub slice_bounds-same_u8-end-3 : goal.slice_bounds-same_u8-end-3
-slice_bounds-same_u8-end-3 c = kinds_left _ _ _ _ _ _ _ _ _ _ (c.dedup_coalesce-second.ensures.value, (c.dedup_coalesce-second.ensures.kinds, (c.dedup_coalesce-second.ensures.lengths, c.dedup_coalesce-second.ensures.numbers))) _ _ c.in-Counts-second.is
-
-pub slice_bounds-same_u8-end-4 : goal.slice_bounds-same_u8-end-4
-slice_bounds-same_u8-end-4 c = sym (length-take-le _ _ (kinds_left _ _ _ _ _ _ _ _ _ _ (c.dedup_coalesce-second.ensures.value, (c.dedup_coalesce-second.ensures.kinds, (c.dedup_coalesce-second.ensures.lengths, c.dedup_coalesce-second.ensures.numbers))) _ _ c.in-Counts-second.is))
-
-pub slice_bounds-same_u32-end : goal.slice_bounds-same_u32-end
-slice_bounds-same_u32-end c = lengths_left _ _ _ _ _ _ _ _ _ _ (c.dedup_coalesce-first.ensures.value, (c.dedup_coalesce-first.ensures.kinds, (c.dedup_coalesce-first.ensures.lengths, c.dedup_coalesce-first.ensures.numbers))) _ _ c.in-Counts.is
-
-pub slice_bounds-same_u32-end-2 : goal.slice_bounds-same_u32-end-2
-slice_bounds-same_u32-end-2 c = sym (length-take-le _ _ (lengths_left _ _ _ _ _ _ _ _ _ _ (c.dedup_coalesce-first.ensures.value, (c.dedup_coalesce-first.ensures.kinds, (c.dedup_coalesce-first.ensures.lengths, c.dedup_coalesce-first.ensures.numbers))) _ _ c.in-Counts.is))
-
-pub slice_bounds-same_u32-end-3 : goal.slice_bounds-same_u32-end-3
-slice_bounds-same_u32-end-3 c = lengths_left _ _ _ _ _ _ _ _ _ _ (c.dedup_coalesce-second.ensures.value, (c.dedup_coalesce-second.ensures.kinds, (c.dedup_coalesce-second.ensures.lengths, c.dedup_coalesce-second.ensures.numbers))) _ _ c.in-Counts-second.is
-
-pub slice_bounds-same_u32-end-4 : goal.slice_bounds-same_u32-end-4
-slice_bounds-same_u32-end-4 c = sym (length-take-le _ _ (lengths_left _ _ _ _ _ _ _ _ _ _ (c.dedup_coalesce-second.ensures.value, (c.dedup_coalesce-second.ensures.kinds, (c.dedup_coalesce-second.ensures.lengths, c.dedup_coalesce-second.ensures.numbers))) _ _ c.in-Counts-second.is))
-
-pub slice_bounds-same_u32-end-5 : goal.slice_bounds-same_u32-end-5
-slice_bounds-same_u32-end-5 c = numbers_left _ _ _ _ _ _ _ _ _ _ (c.dedup_coalesce-first.ensures.value, (c.dedup_coalesce-first.ensures.kinds, (c.dedup_coalesce-first.ensures.lengths, c.dedup_coalesce-first.ensures.numbers))) _ _ c.in-Counts.is
-
-pub slice_bounds-same_u32-end-6 : goal.slice_bounds-same_u32-end-6
-slice_bounds-same_u32-end-6 c = sym (length-take-le _ _ (numbers_left _ _ _ _ _ _ _ _ _ _ (c.dedup_coalesce-first.ensures.value, (c.dedup_coalesce-first.ensures.kinds, (c.dedup_coalesce-first.ensures.lengths, c.dedup_coalesce-first.ensures.numbers))) _ _ c.in-Counts.is))
-
-pub slice_bounds-same_u32-end-7 : goal.slice_bounds-same_u32-end-7
-slice_bounds-same_u32-end-7 c = numbers_left _ _ _ _ _ _ _ _ _ _ (c.dedup_coalesce-second.ensures.value, (c.dedup_coalesce-second.ensures.kinds, (c.dedup_coalesce-second.ensures.lengths, c.dedup_coalesce-second.ensures.numbers))) _ _ c.in-Counts-second.is
-
-pub slice_bounds-same_u32-end-8 : goal.slice_bounds-same_u32-end-8
-slice_bounds-same_u32-end-8 c = sym (length-take-le _ _ (numbers_left _ _ _ _ _ _ _ _ _ _ (c.dedup_coalesce-second.ensures.value, (c.dedup_coalesce-second.ensures.kinds, (c.dedup_coalesce-second.ensures.lengths, c.dedup_coalesce-second.ensures.numbers))) _ _ c.in-Counts-second.is))
+pub new-form2-requires : goal.new-form2-requires
+new-form2-requires c =
+    let e = c.in_ok-second.ensures in
+    let h : Ensured _ _ _ _ _ _ _ _ _ _ = record { value = e.value; kinds = e.kinds; lengths = e.lengths; numbers = e.numbers } in (
+      kinds_left _ _ _ _ _ _ _ _ _ _ h,
+      lengths_left _ _ _ _ _ _ _ _ _ _ h,
+      numbers_left _ _ _ _ _ _ _ _ _ _ h,
+    )
 
 pub returns : goal.returns
-returns c = record { value = answered _ _ _ _ _ _ _ _ _ _ (c.dedup_coalesce-first.ensures.value, (c.dedup_coalesce-first.ensures.kinds, (c.dedup_coalesce-first.ensures.lengths, c.dedup_coalesce-first.ensures.numbers))) _ _ c.in-Counts.is _ _ _ _ _ _ _ _ _ _ (c.dedup_coalesce-second.ensures.value, (c.dedup_coalesce-second.ensures.kinds, (c.dedup_coalesce-second.ensures.lengths, c.dedup_coalesce-second.ensures.numbers))) _ _ c.in-Counts-second.is _ _ _ c.same_u8.ensures c.same_u32.ensures c.same_u32-2.ensures; kinds = both_left _ _ (counted_some _ _ _ _ c.dedup_coalesce-second.ensures.value c.in-Counts-second.is) _ _ _ _ c.dedup_coalesce-first.ensures.kinds; lengths = both_left _ _ (counted_some _ _ _ _ c.dedup_coalesce-second.ensures.value c.in-Counts-second.is) _ _ _ _ c.dedup_coalesce-first.ensures.lengths; numbers = both_left _ _ (counted_some _ _ _ _ c.dedup_coalesce-second.ensures.value c.in-Counts-second.is) _ _ _ _ c.dedup_coalesce-first.ensures.numbers; kinds2 = both_left _ _ (counted_some _ _ _ _ c.dedup_coalesce-first.ensures.value c.in-Counts.is) _ _ _ _ c.dedup_coalesce-second.ensures.kinds; lengths2 = both_left _ _ (counted_some _ _ _ _ c.dedup_coalesce-first.ensures.value c.in-Counts.is) _ _ _ _ c.dedup_coalesce-second.ensures.lengths; numbers2 = both_left _ _ (counted_some _ _ _ _ c.dedup_coalesce-first.ensures.value c.in-Counts.is) _ _ _ _ c.dedup_coalesce-second.ensures.numbers }
+returns c =
+    let e = c.in_ok-first.ensures in
+    let d = c.in_ok-second.ensures in
+    let h : Ensured _ _ _ _ _ _ _ _ _ _ = record { value = e.value; kinds = e.kinds; lengths = e.lengths; numbers = e.numbers } in
+    let i : Ensured _ _ _ _ _ _ _ _ _ _ = record { value = d.value; kinds = d.kinds; lengths = d.lengths; numbers = d.numbers } in
+    let f = c.new-form.ensures in
+    let g = c.new-form2.ensures in
+    let p = (counted _ _ e.value).1 in
+    let q = (counted _ _ d.value).1 in
+    record {
+      value =
+          answered _ _ _ _ _ _ _ _ _ _ h _ _ _ _ _ _ _ _ _ _ i _
+          (rw (← f.0, ← f.1, ← f.2, ← g.0, ← g.1, ← g.2) c.eq.ensures);
+      kinds = both_left _ _ _ q _ _ _ _ e.kinds;
+      lengths = both_left _ _ _ q _ _ _ _ e.lengths;
+      numbers = both_left _ _ _ q _ _ _ _ e.numbers;
+      kinds2 = both_left _ _ _ p _ _ _ _ d.kinds;
+      lengths2 = both_left _ _ _ p _ _ _ _ d.lengths;
+      numbers2 = both_left _ _ _ p _ _ _ _ d.numbers;
+    }

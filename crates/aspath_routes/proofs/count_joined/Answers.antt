@@ -1,52 +1,13 @@
-use Rattle.aspath.proofs.Record.{length_there}
-use Rattle.aspath.proofs.Walk.{place_start, place_next, numbers_end, place_fits, length_fits, end_fits}
-use Rattle.aspath_routes.proofs.Joined.{joined_more, joined_end, joined_small, sum_fits}
-use borrow.Author.Rules.{rules}
+use Rattle.aspath_routes.proofs.Joined.{joined_small, count_step, count_fits, count_done}
 use Rattle.aspath_routes.proofs.count_joined.Goals as goal
 
-ruleset laws = (length_there, place_start, place_next, numbers_end, place_fits, length_fits, end_fits, joined_more, joined_end, joined_small, sum_fits)
-
-pub loop-i-init : goal.loop-i-init
-loop-i-init c = search (laws, rules)
-
-pub offset_bounds-lengths-i : goal.offset_bounds-lengths-i
-offset_bounds-lengths-i c = search (laws, rules)
-
-pub bounds-lengths-i : goal.bounds-lengths-i
-bounds-lengths-i c = search (laws, rules)
-
-pub overflow_cast-end : goal.overflow_cast-end
-overflow_cast-end c = search (laws, rules)
-
-pub overflow_add-end : goal.overflow_add-end
-overflow_add-end c = search (laws, rules)
-
-pub offset_bounds-numbers-from : goal.offset_bounds-numbers-from
-offset_bounds-numbers-from c = search (laws, rules)
-
-pub slice_bounds-count_runs-count : goal.slice_bounds-count_runs-count
-slice_bounds-count_runs-count c = search (laws, rules)
-
-pub slice_bounds-count_runs-start : goal.slice_bounds-count_runs-start
-slice_bounds-count_runs-start c = search (laws, rules)
-
-pub slice_bounds-count_runs-end : goal.slice_bounds-count_runs-end
-slice_bounds-count_runs-end c = search (laws, rules)
-
-pub count_runs-n-requires : goal.count_runs-n-requires
-count_runs-n-requires c = search (laws, rules)
-
 pub overflow_add-n : goal.overflow_add-n
-overflow_add-n c = search (laws, rules)
+overflow_add-n c =
+    count_fits c.args.dedup _ _ _ c.in-Some.ensures.steps _ _ _ c.loop-segment.invariant c.count_runs-n.ensures
+    (joined_small c.args.dedup _ _ _ c.args.path.few_numbers c.args.path.paired c.args.path.summed)
 
-pub overflow_add-i : goal.overflow_add-i
-overflow_add-i c = search (laws, rules)
-
-pub loop-i-smaller : goal.loop-i-smaller
-loop-i-smaller c = search (laws, rules)
-
-pub loop-i-preserved : goal.loop-i-preserved
-loop-i-preserved c = search (laws, rules)
+pub loop-segment-preserved : goal.loop-segment-preserved
+loop-segment-preserved c = count_step c.args.dedup _ _ _ c.in-Some.ensures.steps _ _ _ c.loop-segment.invariant c.count_runs-n.ensures
 
 pub returns : goal.returns
-returns c = search (laws, rules)
+returns c = count_done c.args.dedup _ _ _ c.loop-segment.invariant c.in-None.ensures.steps.0

@@ -1,41 +1,15 @@
-use Rattle.aspath_routes.proofs.Runs.{count_none, count_first, count_end, count_repeat, count_new}
-use borrow.Author.Rules.{rules}
+use Rattle.std.proofs.Common.{arith}
+use Rattle.aspath_routes.proofs.Runs.{count_new, count_repeat, count_end}
+use Rattle.aspath_routes.proofs.count_runs.Goals.{then-kept, else-kept}
 use Rattle.aspath_routes.proofs.count_runs.Goals as goal
 
-ruleset laws = (count_none, count_first, count_end, count_repeat, count_new)
-
-pub returns-then-numbers-eq0 : goal.returns-then-numbers-eq0
-returns-then-numbers-eq0 c = search (laws, rules)
-
-pub bounds-numbers-0 : goal.bounds-numbers-0
-bounds-numbers-0 c = search (laws, rules)
-
-pub loop-j-init : goal.loop-j-init
-loop-j-init c = search (laws, rules)
-
-pub offset_bounds-numbers-j : goal.offset_bounds-numbers-j
-offset_bounds-numbers-j c = search (laws, rules)
-
-pub bounds-numbers-j : goal.bounds-numbers-j
-bounds-numbers-j c = search (laws, rules)
-
-pub overflow_add-j : goal.overflow_add-j
-overflow_add-j c = search (laws, rules)
-
-pub overflow_add-n : goal.overflow_add-n
-overflow_add-n c = search (laws, rules)
-
-pub loop-j-smaller-then-not-repeated : goal.loop-j-smaller-then-not-repeated
-loop-j-smaller-then-not-repeated c = search (laws, rules)
-
-pub loop-j-preserved-then-not-repeated : goal.loop-j-preserved-then-not-repeated
-loop-j-preserved-then-not-repeated c = search (laws, rules)
-
-pub loop-j-smaller : goal.loop-j-smaller
-loop-j-smaller c = search (laws, rules)
-
-pub loop-j-preserved : goal.loop-j-preserved
-loop-j-preserved c = search (laws, rules)
+pub loop-number-preserved : goal.loop-number-preserved
+loop-number-preserved c =
+    let at = c.loop-number in
+    elim c.if-kept.branch [
+      | then-kept w ↦ (omega arith, rw w.n-is (count_new c.args.dedup _ _ at.previous _ c.stays-kept.ensures c.loop-number-test.true _ at.invariant.1 w.if-kept.true))
+      | else-kept w ↦ (omega arith, rw w.n-is (count_repeat c.args.dedup _ _ at.previous _ c.stays-kept.ensures c.loop-number-test.true _ at.invariant.1 w.if-kept.false))
+    ]
 
 pub returns : goal.returns
-returns c = search (laws, rules)
+returns c = count_end c.args.dedup _ _ c.loop-number.previous _ c.loop-number.invariant.1 c.loop-number-test.false

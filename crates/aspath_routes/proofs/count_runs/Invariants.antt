@@ -1,11 +1,7 @@
-use mathlib.Core.Path.{◌≡◌}
-use Prim.Native.Nat.{◌+◌, ◌-◌, ◌≤◌}
-use lib.ListN.{length, drop}
-use Rattle.aspath_routes.specs.Runs.{after, runs}
+use Rattle.std.proofs.Common.{◌≡◌, ◌+◌, ◌≤◌, length, drop}
+use Rattle.aspath_routes.specs.Runs.{runs}
+use Rattle.aspath_routes.proofs.Runs.{rest_of}
 use Rattle.aspath_routes.proofs.count_runs.Given as goal
 
-abbrev pub invariant-loop-j : goal.invariant-loop-j
-invariant-loop-j l = (l.n ≤ l.j) × (l.j ≤ length l.numbers) × (length (runs l.dedup l.numbers) ≡ l.n + length (after l.dedup l.prev (drop l.j l.numbers)))
-
-abbrev pub decreases-loop-j : goal.decreases-loop-j
-decreases-loop-j l = length l.numbers - l.j
+abbrev pub invariant-loop-number : goal.invariant-loop-number
+invariant-loop-number l = (l.n ≤ l.number-index) × (length (runs l.dedup l.numbers) ≡ l.n + length (rest_of l.dedup l.previous (drop l.number-index l.numbers)))

@@ -1,32 +1,13 @@
-use Rattle.aspath_routes.proofs.Answers.{told_count, route_spoilt, route_too_many}
-use borrow.Author.Rules.{rules}
+use Rattle.aspath_routes.proofs.Answers.{route_beyond, route_few, route_written}
 use Rattle.aspath_routes.proofs.numbered_route.Goals as goal
 
-ruleset laws = (told_count, route_spoilt, route_too_many)
+pub returns-then-total-number : goal.returns-then-total-number
+returns-then-total-number c = rw (← c.in_ok-path.ensures) (route_beyond _ _ _ _ c.in_ok-total.ensures c.if-total-number.true)
 
-pub num_route_variations-requires : goal.num_route_variations-requires
-num_route_variations-requires c = search (laws, rules)
+pub returns-then-out-n : goal.returns-then-out-n
+returns-then-out-n c = rw (← c.in_ok-path.ensures) (route_few _ _ _ _ c.in_ok-total.ensures c.if-total-number.false _ c.route_len-n.ensures c.if-out-n.true)
 
-pub enum_told-1 : goal.enum_told-1
-enum_told-1 c = search (laws, rules)
-
-pub enum_told-in-TooMany : goal.enum_told-in-TooMany
-enum_told-in-TooMany c = search (laws, rules)
-
-pub enum_known-total : goal.enum_known-total
-enum_known-total c = search (laws, rules)
-
-pub route_of-requires : goal.route_of-requires
-route_of-requires c = search (laws, rules)
-
-pub returns-in-Spoilt : goal.returns-in-Spoilt
-returns-in-Spoilt c = search (laws, rules)
-
-pub returns-in-TooMany : goal.returns-in-TooMany
-returns-in-TooMany c = search (laws, rules)
-
-pub shape_of-out : goal.shape_of-out
-shape_of-out c = search (laws, rules)
-
-pub returns-in-Count : goal.returns-in-Count
-returns-in-Count c = search (laws, rules)
+pub returns : goal.returns
+returns c =
+    rw (← c.in_ok-path.ensures)
+    (route_written _ _ _ _ c.in_ok-total.ensures c.if-total-number.false _ c.route_len-n.ensures c.if-out-n.false _ _ c.write_route.ensures)

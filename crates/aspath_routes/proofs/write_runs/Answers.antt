@@ -1,48 +1,15 @@
-use Rattle.output.proofs.Output.{all_left}
-use Rattle.aspath_routes.proofs.Runs.{write_none, write_first, write_end, write_repeat, write_new}
-use borrow.Author.Rules.{rules}
+use Rattle.std.proofs.Common.{arith}
+use Rattle.aspath_routes.proofs.Runs.{write_new, write_repeat, write_end}
+use Rattle.aspath_routes.proofs.write_runs.Goals.{then-kept, else-kept}
 use Rattle.aspath_routes.proofs.write_runs.Goals as goal
 
-ruleset laws = (all_left, write_none, write_first, write_end, write_repeat, write_new)
-
-pub returns-then-numbers-eq0 : goal.returns-then-numbers-eq0
-returns-then-numbers-eq0 c = search (laws, rules)
-
-pub bounds-numbers-0 : goal.bounds-numbers-0
-bounds-numbers-0 c = search (laws, rules)
-
-pub write_number-place-requires : goal.write_number-place-requires
-write_number-place-requires c = search (laws, rules)
-
-pub loop-j-init : goal.loop-j-init
-loop-j-init c = search (laws, rules)
-
-pub offset_bounds-numbers-j : goal.offset_bounds-numbers-j
-offset_bounds-numbers-j c = search (laws, rules)
-
-pub bounds-numbers-j : goal.bounds-numbers-j
-bounds-numbers-j c = search (laws, rules)
-
-pub overflow_add-j : goal.overflow_add-j
-overflow_add-j c = search (laws, rules)
-
-pub write_number-place-requires-then-not-repeated : goal.write_number-place-requires-then-not-repeated
-write_number-place-requires-then-not-repeated c = search (laws, rules)
-
-pub loop-j-smaller-then-not-repeated : goal.loop-j-smaller-then-not-repeated
-loop-j-smaller-then-not-repeated c = search (laws, rules)
-
-pub loop-j-preserved-then-not-repeated : goal.loop-j-preserved-then-not-repeated
-loop-j-preserved-then-not-repeated c = search (laws, rules)
-
-pub loop-j-smaller : goal.loop-j-smaller
-loop-j-smaller c = search (laws, rules)
-
-pub loop-j-preserved : goal.loop-j-preserved
-loop-j-preserved c = search (laws, rules)
-
-pub shape_of-out : goal.shape_of-out
-shape_of-out c = search (laws, rules)
+pub loop-number-preserved : goal.loop-number-preserved
+loop-number-preserved c =
+    let at = c.loop-number in
+    elim c.if-kept.branch [
+      | then-kept w ↦ (omega arith, rw (w.out-is, w.place-is) (write_new c.args.dedup _ _ at.previous _ c.stays-kept.ensures c.loop-number-test.true _ _ _ _ _ at.invariant.1 w.if-kept.true _ _ w.write_number-place.ensures))
+      | else-kept w ↦ (omega arith, rw (w.out-is, w.place-is) (write_repeat c.args.dedup _ _ at.previous _ c.stays-kept.ensures c.loop-number-test.true _ _ _ _ _ at.invariant.1 w.if-kept.false))
+    ]
 
 pub returns : goal.returns
-returns c = search (laws, rules)
+returns c = write_end c.args.dedup _ _ c.loop-number.previous _ _ _ _ _ c.loop-number.invariant.1 c.loop-number-test.false
