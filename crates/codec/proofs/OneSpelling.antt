@@ -1,9 +1,9 @@
 -- Words that spell a state are that state's words, and the state fits: with `spells` (RoundTrip), sixteen words spell a state exactly when they are
 -- the words of one that fits. Assumes nothing.
+use Rattle.std.specs.Prelude.{Option, Some, None}
 use mathlib.Core.Path.{◌≡◌, refl, sym, ap, ◌∙◌, subst}
 use mathlib.Core.Bool.{Bool, true, false, cond, ◌&&◌}
 use mathlib.Core.List.{List, [], ◌∷◌}
-use mathlib.Core.Option.{Option, some, none}
 use Prim.Native.Nat.{ℕ, suc, ◌≤◌, ◌<◌, ◌^◌}
 use native.Mathlib.Omega.{arith}
 use lib.ListN.{length, get_or, drop, drop_of_length-le}
@@ -25,10 +25,10 @@ use Rattle.codec.specs.Spelling.{address_of, with_length, prefix_of, as_valid, r
 use Rattle.codec.specs.declared.AddressWords.{AddressWords}
 use Rattle.codec.specs.declared.RememberedWords.{RememberedWords}
 
-clash : {A : Type 0} {x : A} → none ≡ some x → ⊥
+clash : {A : Type 0} {x : A} → None ≡ Some x → ⊥
 clash h = let z : ◌≡◌ {A = ℕ} 0 1 = cc in omega arith
 
-inside : {A : Type 0} {x y : A} → some x ≡ some y → x ≡ y
+inside : {A : Type 0} {x y : A} → Some x ≡ Some y → x ≡ y
 inside h = cc
 
 -- an address
@@ -36,11 +36,11 @@ abbrev address : ℕ → ℕ → ℕ → AddressWords
 address k u l = record { kind = k; upper = u; lower = l }
 
 module _ (k u l : ℕ) (a : IpAddr) where
-  address_spelled : address_of k u l ≡ some a → (address_words a ≡ address k u l) × FitsAddress a
+  address_spelled : address_of k u l ≡ Some a → (address_words a ≡ address k u l) × FitsAddress a
   unfolding address_of
   address_spelled h = go (eqb k 1) refl h
     where
-      v4 : (x y z : Bool) → eqb k 0 ≡ x → eqb u 0 ≡ y → leb l 4294967295 ≡ z → cond (x && y && z) (some (V4 l)) none ≡ some a → (address_words a ≡ address k u l) × FitsAddress a
+      v4 : (x y z : Bool) → eqb k 0 ≡ x → eqb u 0 ≡ y → leb l 4294967295 ≡ z → cond (x && y && z) (Some (V4 l)) None ≡ Some a → (address_words a ≡ address k u l) × FitsAddress a
       v4 true true true e f g h =
           let is : V4 l ≡ a = inside h in
           (sym (ap address_words is) ∙ rw (eqb-true k 0 e, eqb-true u 0 f), subst FitsAddress is (leb-true l 4294967295 g))
@@ -48,7 +48,7 @@ module _ (k u l : ℕ) (a : IpAddr) where
       v4 true false z e f g h = absurd (clash h)
       v4 false y z e f g h = absurd (clash h)
 
-      go : (b : Bool) → eqb k 1 ≡ b → cond b (some (V6 u l)) (cond (eqb k 0 && eqb u 0 && leb l 4294967295) (some (V4 l)) none) ≡ some a → (address_words a ≡ address k u l) × FitsAddress a
+      go : (b : Bool) → eqb k 1 ≡ b → cond b (Some (V6 u l)) (cond (eqb k 0 && eqb u 0 && leb l 4294967295) (Some (V4 l)) None) ≡ Some a → (address_words a ≡ address k u l) × FitsAddress a
       go true e h = let is : V6 u l ≡ a = inside h in (sym (ap address_words is) ∙ rw (eqb-true k 1 e), subst FitsAddress is tt)
       go false e h = v4 (eqb k 0) (eqb u 0) (leb l 4294967295) refl refl refl h
 
@@ -57,11 +57,11 @@ abbrev remembered : ℕ → ℕ → ℕ → ℕ → ℕ → RememberedWords
 remembered m k u l n = record { kind = m; addr = address k u l; len = n }
 
 module _ (k u l n : ℕ) (p : NetworkPrefix) where
-  prefix_spelled : prefix_of k u l n ≡ some p → (address_words p.addr ≡ address k u l) × (p.len ≡ n) × FitsPrefix p
+  prefix_spelled : prefix_of k u l n ≡ Some p → (address_words p.addr ≡ address k u l) × (p.len ≡ n) × FitsPrefix p
   unfolding prefix_of
   prefix_spelled h = go (address_of k u l) refl h
     where
-      long : (a : IpAddr) → address_of k u l ≡ some a → (b : Bool) → leb n 255 ≡ b → cond b (some (record { addr = a; len = n })) none ≡ some p
+      long : (a : IpAddr) → address_of k u l ≡ Some a → (b : Bool) → leb n 255 ≡ b → cond b (Some (record { addr = a; len = n })) None ≡ Some p
           → (address_words p.addr ≡ address k u l) × (p.len ≡ n) × FitsPrefix p
       long a e true f h =
           let is : record { addr = a; len = n } ≡ p = inside h in
@@ -69,30 +69,30 @@ module _ (k u l n : ℕ) (p : NetworkPrefix) where
           subst (λ (q : NetworkPrefix). (address_words q.addr ≡ address k u l) × (q.len ≡ n) × FitsPrefix q) is (s.0, refl, (s.1, leb-true n 255 f))
       long a e false f h = absurd (clash h)
 
-      go : (o : Option IpAddr) → address_of k u l ≡ o → with_length n o ≡ some p → (address_words p.addr ≡ address k u l) × (p.len ≡ n) × FitsPrefix p
-      go (some a) e h = long a e (leb n 255) refl h
-      go none e h = absurd (clash h)
+      go : (o : Option IpAddr) → address_of k u l ≡ o → with_length n o ≡ Some p → (address_words p.addr ≡ address k u l) × (p.len ≡ n) × FitsPrefix p
+      go (Some a) e h = long a e (leb n 255) refl h
+      go None e h = absurd (clash h)
 
 module _ (m k u l n : ℕ) (x : Remembered) where
-  remembered_spelled : remembered_of m k u l n ≡ some x → (remembered_words x ≡ remembered m k u l n) × FitsRemembered x
+  remembered_spelled : remembered_of m k u l n ≡ Some x → (remembered_words x ≡ remembered m k u l n) × FitsRemembered x
   unfolding remembered_of
   remembered_spelled h = go (eqb m 2) refl h
     where
-      valid : m ≡ 2 → (o : Option NetworkPrefix) → prefix_of k u l n ≡ o → as_valid o ≡ some x → (remembered_words x ≡ remembered m k u l n) × FitsRemembered x
-      valid two (some p) e h =
+      valid : m ≡ 2 → (o : Option NetworkPrefix) → prefix_of k u l n ≡ o → as_valid o ≡ Some x → (remembered_words x ≡ remembered m k u l n) × FitsRemembered x
+      valid two (Some p) e h =
           let is : Valid p ≡ x = inside h in
           let s = prefix_spelled k u l n p e in
           (sym (ap remembered_words is) ∙ rw (s.0, s.1, two), subst FitsRemembered is s.2)
-      valid two none e h = absurd (clash h)
+      valid two None e h = absurd (clash h)
 
-      kind : remembered m 0 0 0 0 ≡ remembered m k u l n → (a b : Bool) → eqb m 0 ≡ a → eqb m 1 ≡ b → cond a (some Nothing) (cond b (some Invalid) none) ≡ some x
+      kind : remembered m 0 0 0 0 ≡ remembered m k u l n → (a b : Bool) → eqb m 0 ≡ a → eqb m 1 ≡ b → cond a (Some Nothing) (cond b (Some Invalid) None) ≡ Some x
           → (remembered_words x ≡ remembered m k u l n) × FitsRemembered x
       kind z true b e f h = let is : Nothing ≡ x = inside h in (sym (ap remembered_words is) ∙ ap (λ (j : ℕ). remembered j 0 0 0 0) (sym (eqb-true m 0 e)) ∙ z, subst FitsRemembered is tt)
       kind z false true e f h = let is : Invalid ≡ x = inside h in (sym (ap remembered_words is) ∙ ap (λ (j : ℕ). remembered j 0 0 0 0) (sym (eqb-true m 1 f)) ∙ z, subst FitsRemembered is tt)
       kind z false false e f h = absurd (clash h)
 
       empty : (a b c d : Bool) → eqb k 0 ≡ a → eqb u 0 ≡ b → eqb l 0 ≡ c → eqb n 0 ≡ d
-          → cond (a && b && c && d) (cond (eqb m 0) (some Nothing) (cond (eqb m 1) (some Invalid) none)) none ≡ some x
+          → cond (a && b && c && d) (cond (eqb m 0) (Some Nothing) (cond (eqb m 1) (Some Invalid) None)) None ≡ Some x
           → (remembered_words x ≡ remembered m k u l n) × FitsRemembered x
       empty true true true true e f g i h = kind (rw (eqb-true k 0 e, eqb-true u 0 f, eqb-true l 0 g, eqb-true n 0 i)) (eqb m 0) (eqb m 1) refl refl h
       empty true true true false e f g i h = absurd (clash h)
@@ -101,7 +101,7 @@ module _ (m k u l n : ℕ) (x : Remembered) where
       empty false b c d e f g i h = absurd (clash h)
 
       go : (b : Bool) → eqb m 2 ≡ b
-          → cond b (as_valid (prefix_of k u l n)) (cond (eqb k 0 && eqb u 0 && eqb l 0 && eqb n 0) (cond (eqb m 0) (some Nothing) (cond (eqb m 1) (some Invalid) none)) none) ≡ some x
+          → cond b (as_valid (prefix_of k u l n)) (cond (eqb k 0 && eqb u 0 && eqb l 0 && eqb n 0) (cond (eqb m 0) (Some Nothing) (cond (eqb m 1) (Some Invalid) None)) None) ≡ Some x
           → (remembered_words x ≡ remembered m k u l n) × FitsRemembered x
       go true e h = valid (eqb-true m 2 e) (prefix_of k u l n) refl h
       go false e h = empty (eqb k 0) (eqb u 0) (eqb l 0) (eqb n 0) refl refl refl refl h
@@ -126,32 +126,32 @@ module _ (w : List ℕ) (σ : State) where
   abbrev pub ItsWords : State → Type 0
   ItsWords τ = length w ≡ 16 → get_or w 9 0 < 2 ^ 64 → w ≡ state_words τ
 
-  pub spelled : state_of w ≡ some σ → ItsWords σ × Fits σ
+  pub spelled : state_of w ≡ Some σ → ItsWords σ × Fits σ
   unfolding state_of state_but_time state_words
   spelled h = by_time (is_timestamp at) refl h
     where
       at : Float
       at = of_bits binary64 (get_or w 9 0)
 
-      all : T (is_timestamp at) → (a : IpAddr) → address_of (get_or w 5 0) (get_or w 6 0) (get_or w 7 0) ≡ some a → get_or w 8 0 ≤ 4294967295
+      all : T (is_timestamp at) → (a : IpAddr) → address_of (get_or w 5 0) (get_or w 6 0) (get_or w 7 0) ≡ Some a → get_or w 8 0 ≤ 4294967295
           → (m : Option Remembered) → remembered_of (get_or w 10 0) (get_or w 11 0) (get_or w 12 0) (get_or w 13 0) (get_or w 14 0) ≡ m
-          → with_remembered w a at m ≡ some σ → ItsWords σ × Fits σ
-      all t a ea en (some m) em h =
+          → with_remembered w a at m ≡ Some σ → ItsWords σ × Fits σ
+      all t a ea en (Some m) em h =
           let p = address_spelled (get_or w 5 0) (get_or w 6 0) (get_or w 7 0) a ea in
           let r = remembered_spelled (get_or w 10 0) (get_or w 11 0) (get_or w 12 0) (get_or w 13 0) (get_or w 14 0) m em in
           subst (λ (τ : State). ItsWords τ × Fits τ) (inside h)
           (λ size small. listed w size ∙ sym (rw (p.0, timestamp_spelled (get_or w 9 0) t small, r.0)), record { peer = p.1; asn = en; float = of_bits-fits binary64 (get_or w 9 0); timestamp = t; remembered = r.1 })
-      all t a ea en none em h = absurd (clash h)
+      all t a ea en None em h = absurd (clash h)
 
-      by_asn : T (is_timestamp at) → (a : IpAddr) → address_of (get_or w 5 0) (get_or w 6 0) (get_or w 7 0) ≡ some a → (b : Bool) → leb (get_or w 8 0) 4294967295 ≡ b
-          → cond b (with_remembered w a at (remembered_of (get_or w 10 0) (get_or w 11 0) (get_or w 12 0) (get_or w 13 0) (get_or w 14 0))) none ≡ some σ → ItsWords σ × Fits σ
+      by_asn : T (is_timestamp at) → (a : IpAddr) → address_of (get_or w 5 0) (get_or w 6 0) (get_or w 7 0) ≡ Some a → (b : Bool) → leb (get_or w 8 0) 4294967295 ≡ b
+          → cond b (with_remembered w a at (remembered_of (get_or w 10 0) (get_or w 11 0) (get_or w 12 0) (get_or w 13 0) (get_or w 14 0))) None ≡ Some σ → ItsWords σ × Fits σ
       by_asn t a ea true eb h = all t a ea (leb-true (get_or w 8 0) 4294967295 eb) (remembered_of (get_or w 10 0) (get_or w 11 0) (get_or w 12 0) (get_or w 13 0) (get_or w 14 0)) refl h
       by_asn t a ea false eb h = absurd (clash h)
 
-      by_peer : T (is_timestamp at) → (o : Option IpAddr) → address_of (get_or w 5 0) (get_or w 6 0) (get_or w 7 0) ≡ o → with_peer w o ≡ some σ → ItsWords σ × Fits σ
-      by_peer t (some a) ea h = by_asn t a ea (leb (get_or w 8 0) 4294967295) refl h
-      by_peer t none ea h = absurd (clash h)
+      by_peer : T (is_timestamp at) → (o : Option IpAddr) → address_of (get_or w 5 0) (get_or w 6 0) (get_or w 7 0) ≡ o → with_peer w o ≡ Some σ → ItsWords σ × Fits σ
+      by_peer t (Some a) ea h = by_asn t a ea (leb (get_or w 8 0) 4294967295) refl h
+      by_peer t None ea h = absurd (clash h)
 
-      by_time : (b : Bool) → is_timestamp at ≡ b → cond b (state_but_time w) none ≡ some σ → ItsWords σ × Fits σ
+      by_time : (b : Bool) → is_timestamp at ≡ b → cond b (state_but_time w) None ≡ Some σ → ItsWords σ × Fits σ
       by_time true e h = by_peer (subst T (sym e) tt) (address_of (get_or w 5 0) (get_or w 6 0) (get_or w 7 0)) refl h
       by_time false e h = absurd (clash h)

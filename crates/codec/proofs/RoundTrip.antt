@@ -1,20 +1,16 @@
 -- A state's words spell it, and words that spell a state are its words: a state has one spelling. An element's words hold it. Assumes nothing.
+use Rattle.std.specs.Prelude.{ℕ, Option, Some, None}
 use mathlib.Core.Path.{◌≡◌, refl, ap, ◌∙◌}
 use mathlib.Core.Bool.{Bool, true, false, cond}
-use mathlib.Core.Option.{some}
 use lib.Dec.{T, eqb}
 use lib.Ieee.{binary64, fits}
 use lib.Ieee.Bits.{is_true, of_bits-to_bits}
 use borrow.Author.Tests.{le-leb}
 use Rattle.seconds.specs.Seconds.{is_timestamp}
-use Rattle.decimal.specs.declared.U32Read.{U32Read}
-use Rattle.decimal.specs.declared.U32Read.TheVariants as read
 use Rattle.network.specs.declared.IpAddr.{IpAddr}
 use Rattle.network.specs.declared.IpAddr.TheVariants.{V4, V6}
-use Rattle.elem.specs.declared.OptAsn.{OptAsn}
-use Rattle.elem.specs.declared.OptAsn.TheVariants as asn
-use Rattle.elem.specs.declared.OptOrigin.{OptOrigin}
-use Rattle.elem.specs.declared.OptOrigin.TheVariants as origin
+use Rattle.network.specs.declared.Asn.{Asn}
+use Rattle.elem.specs.declared.Origin.{Origin}
 use Rattle.elem.specs.declared.Origin.TheVariants.{IGP, EGP, INCOMPLETE}
 use Rattle.elem.specs.declared.Element.{Element}
 use Rattle.text_dump.specs.declared.Remembered.{Remembered}
@@ -24,19 +20,19 @@ use Rattle.codec.specs.Words.{address_words, remembered_words, asn_words, origin
 use Rattle.codec.specs.Spelling.{address_of, prefix_of, remembered_of, with_peer, with_remembered, state_but_time, state_of, FitsAddress, FitsRemembered, Fits}
 use Rattle.codec.specs.Element.{address_in, asn_in, number_in, origin_in, element_in}
 
-address_back : (a : IpAddr) → FitsAddress a → address_of (address_words a).kind (address_words a).upper (address_words a).lower ≡ some a
+address_back : (a : IpAddr) → FitsAddress a → address_of (address_words a).kind (address_words a).upper (address_words a).lower ≡ Some a
 unfolding address_of
 address_back (V4 n) h = rw (le-leb n 4294967295 h)
 address_back (V6 u l) h = refl
 
 remembered_back : (m : Remembered) → FitsRemembered m
-    → remembered_of (remembered_words m).kind (remembered_words m).addr.kind (remembered_words m).addr.upper (remembered_words m).addr.lower (remembered_words m).len ≡ some m
+    → remembered_of (remembered_words m).kind (remembered_words m).addr.kind (remembered_words m).addr.upper (remembered_words m).addr.lower (remembered_words m).len ≡ Some m
 unfolding remembered_of prefix_of
 remembered_back Nothing h = refl
 remembered_back Invalid h = refl
 remembered_back (Valid p) h = rw (address_back p.addr h.0, le-leb p.len 255 h.1)
 
-pub spells : (σ : State) → Fits σ → state_of (state_words σ) ≡ some σ
+pub spells : (σ : State) → Fits σ → state_of (state_words σ) ≡ Some σ
 unfolding state_of state_but_time state_words
 spells σ h =
     rw (of_bits-to_bits binary64 σ.timestamp h.float, is_true (is_timestamp σ.timestamp) h.timestamp)
@@ -49,19 +45,19 @@ address_held : (a : IpAddr) → address_in (address_words a).kind (address_words
 address_held (V4 n) = refl
 address_held (V6 u l) = refl
 
-asn_held : (a : OptAsn) → asn_in (asn_words a).known (asn_words a).value ≡ a
-asn_held (asn.Known a) = refl
-asn_held asn.Nothing = refl
+asn_held : (a : Option Asn) → asn_in (asn_words a).known (asn_words a).value ≡ a
+asn_held (Some a) = refl
+asn_held None = refl
 
-number_held : (n : U32Read) → number_in (number_words n).known (number_words n).value ≡ n
-number_held (read.Number n) = refl
-number_held read.Nothing = refl
+number_held : (n : Option ℕ) → number_in (number_words n).known (number_words n).value ≡ n
+number_held (Some n) = refl
+number_held None = refl
 
-origin_held : (o : OptOrigin) → origin_in (origin_words o).known (origin_words o).value ≡ o
-origin_held (origin.Known IGP) = refl
-origin_held (origin.Known EGP) = refl
-origin_held (origin.Known INCOMPLETE) = refl
-origin_held origin.Nothing = refl
+origin_held : (o : Option Origin) → origin_in (origin_words o).known (origin_words o).value ≡ o
+origin_held (Some IGP) = refl
+origin_held (Some EGP) = refl
+origin_held (Some INCOMPLETE) = refl
+origin_held None = refl
 
 announce_held : (b : Bool) → eqb (cond b 1 0) 1 ≡ b
 announce_held true = refl

@@ -1,29 +1,25 @@
 -- The element that twenty-two words hold, for those who read what the calls wrote (docs/LAYOUT.md).
-use Rattle.std.specs.Prelude.{ℕ, cond, List, get_or, eqb}
+use Rattle.std.specs.Prelude.{ℕ, cond, List, get_or, eqb, Option, Some, None}
 use Rattle.std.specs.Float.{binary64}
 use Rattle.std.specs.Float.Ieee.{of_bits}
-use Rattle.decimal.specs.declared.U32Read.{U32Read}
-use Rattle.decimal.specs.declared.U32Read.TheVariants as read
 use Rattle.network.specs.declared.IpAddr.{IpAddr}
 use Rattle.network.specs.declared.IpAddr.TheVariants.{V4, V6}
-use Rattle.elem.specs.declared.OptAsn.{OptAsn}
-use Rattle.elem.specs.declared.OptAsn.TheVariants as asn
-use Rattle.elem.specs.declared.OptOrigin.{OptOrigin}
-use Rattle.elem.specs.declared.OptOrigin.TheVariants as origin
+use Rattle.network.specs.declared.Asn.{Asn}
+use Rattle.elem.specs.declared.Origin.{Origin}
 use Rattle.elem.specs.declared.Origin.TheVariants.{IGP, EGP, INCOMPLETE}
 use Rattle.elem.specs.declared.Element.{Element}
 
 abbrev pub address_in : ℕ → ℕ → ℕ → IpAddr
 address_in kind upper lower = cond (eqb kind 0) (V4 lower) (V6 upper lower)
 
-abbrev pub asn_in : ℕ → ℕ → OptAsn
-asn_in known v = cond (eqb known 0) asn.Nothing (asn.Known (record { 0 = v }))
+abbrev pub asn_in : ℕ → ℕ → Option Asn
+asn_in known v = cond (eqb known 0) None (Some (record { 0 = v }))
 
-abbrev pub number_in : ℕ → ℕ → U32Read
-number_in known v = cond (eqb known 0) read.Nothing (read.Number v)
+abbrev pub number_in : ℕ → ℕ → Option ℕ
+number_in known v = cond (eqb known 0) None (Some v)
 
-abbrev pub origin_in : ℕ → ℕ → OptOrigin
-origin_in known v = cond (eqb known 0) origin.Nothing (origin.Known (cond (eqb v 0) IGP (cond (eqb v 1) EGP INCOMPLETE)))
+abbrev pub origin_in : ℕ → ℕ → Option Origin
+origin_in known v = cond (eqb known 0) None (Some (cond (eqb v 0) IGP (cond (eqb v 1) EGP INCOMPLETE)))
 
 unfoldable pub element_in : List ℕ → Element
 element_in w =

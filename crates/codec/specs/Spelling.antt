@@ -1,6 +1,5 @@
 -- The state that sixteen words spell, field by field (docs/LAYOUT.md); none where a slot holds no value of its field.
-use Rattle.std.specs.Prelude.{ℕ, ◌≤◌, Bool, true, false, cond, ◌&&◌, List, get_or, T, eqb, leb, Float}
-use Rattle.std.proofs.Math.Option.{Option, some, none}
+use Rattle.std.specs.Prelude.{ℕ, ◌≤◌, Bool, true, false, cond, ◌&&◌, List, get_or, T, eqb, leb, Float, Option, Some, None}
 use Rattle.std.specs.Float.{binary64}
 use Rattle.std.specs.Float.Ieee.{fits, of_bits}
 use Rattle.network.specs.declared.IpAddr.{IpAddr}
@@ -10,39 +9,37 @@ use Rattle.seconds.specs.Seconds.{is_timestamp}
 use Rattle.text_dump.specs.declared.Remembered.{Remembered}
 use Rattle.text_dump.specs.declared.Remembered.TheVariants.{Nothing, Invalid, Valid}
 use Rattle.text_dump.specs.declared.State.{State}
-use Rattle.codec.specs.declared.StateRead.{StateRead}
-use Rattle.codec.specs.declared.StateRead.TheVariants as state
 
 -- an IPv4 address is a u32
 unfoldable pub address_of : ℕ → ℕ → ℕ → Option IpAddr
 address_of kind upper lower =
-    cond (eqb kind 1) (some (V6 upper lower))
-    (cond (eqb kind 0 && eqb upper 0 && leb lower 4294967295) (some (V4 lower)) none)
+    cond (eqb kind 1) (Some (V6 upper lower))
+    (cond (eqb kind 0 && eqb upper 0 && leb lower 4294967295) (Some (V4 lower)) None)
 
 -- a prefix length is a u8; one that the address cannot have spells a spoilt state
 abbrev pub with_length : ℕ → Option IpAddr → Option NetworkPrefix
-with_length n (some a) = cond (leb n 255) (some (record { addr = a; len = n })) none
-with_length n none = none
+with_length n (Some a) = cond (leb n 255) (Some (record { addr = a; len = n })) None
+with_length n None = None
 
 unfoldable pub prefix_of : ℕ → ℕ → ℕ → ℕ → Option NetworkPrefix
 prefix_of kind upper lower n = with_length n (address_of kind upper lower)
 
 abbrev pub as_valid : Option NetworkPrefix → Option Remembered
-as_valid (some p) = some (Valid p)
-as_valid none = none
+as_valid (Some p) = Some (Valid p)
+as_valid None = None
 
 -- where no prefix is remembered, its slots are 0
 unfoldable pub remembered_of : ℕ → ℕ → ℕ → ℕ → ℕ → Option Remembered
 remembered_of m kind upper lower n =
     cond (eqb m 2) (as_valid (prefix_of kind upper lower n))
     (cond (eqb kind 0 && eqb upper 0 && eqb lower 0 && eqb n 0)
-    (cond (eqb m 0) (some Nothing) (cond (eqb m 1) (some Invalid) none))
-    none)
+    (cond (eqb m 0) (Some Nothing) (cond (eqb m 1) (Some Invalid) None))
+    None)
 
 module _ (w : List ℕ) where
   abbrev pub with_remembered : IpAddr → Float → Option Remembered → Option State
-  with_remembered peer t (some m) =
-      some
+  with_remembered peer t (Some m) =
+      Some
       (record {
         columns = record { next_hop = get_or w 0 0; metric = get_or w 1 0; local_pref = get_or w 2 0; weight = get_or w 3 0; path = get_or w 4 0 };
         peer_ip = peer;
@@ -51,12 +48,12 @@ module _ (w : List ℕ) where
         remembered = m;
         position = get_or w 15 0;
       })
-  with_remembered peer t none = none
+  with_remembered peer t None = None
 
   -- an AS number is a u32
   abbrev pub with_peer : Option IpAddr → Option State
-  with_peer (some a) = cond (leb (get_or w 8 0) 4294967295) (with_remembered a (of_bits binary64 (get_or w 9 0)) (remembered_of (get_or w 10 0) (get_or w 11 0) (get_or w 12 0) (get_or w 13 0) (get_or w 14 0))) none
-  with_peer none = none
+  with_peer (Some a) = cond (leb (get_or w 8 0) 4294967295) (with_remembered a (of_bits binary64 (get_or w 9 0)) (remembered_of (get_or w 10 0) (get_or w 11 0) (get_or w 12 0) (get_or w 13 0) (get_or w 14 0))) None
+  with_peer None = None
 
   -- the state that the words spell, whatever bits stand for its timestamp
   unfoldable pub state_but_time : Option State
@@ -64,16 +61,7 @@ module _ (w : List ℕ) where
 
   -- the state that the words spell: the bits are those of a timestamp (01, Records)
   unfoldable pub state_of : Option State
-  state_of = cond (is_timestamp (of_bits binary64 (get_or w 9 0))) state_but_time none
-
--- the answers: whether words spell one, and the state
-abbrev pub is_some : {A : Type 0} → Option A → Bool
-is_some (some x) = true
-is_some none = false
-
-abbrev pub as_state : Option State → StateRead
-as_state (some σ) = state.State σ
-as_state none = state.Nothing
+  state_of = cond (is_timestamp (of_bits binary64 (get_or w 9 0))) state_but_time None
 
 -- what the types of a state's fields say of their numbers, and that its timestamp is one: such a state is spelled by its words (proofs/RoundTrip)
 abbrev pub FitsAddress : IpAddr → Type 0

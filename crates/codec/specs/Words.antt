@@ -1,15 +1,11 @@
 -- The slots of a state and of an element, in the order of docs/LAYOUT.md.
-use Rattle.std.specs.Prelude.{ℕ, cond, List, [], ◌∷◌}
+use Rattle.std.specs.Prelude.{ℕ, cond, List, [], ◌∷◌, Option, Some, None}
 use Rattle.std.specs.Float.{binary64}
 use Rattle.std.specs.Float.Ieee.{to_bits}
-use Rattle.decimal.specs.declared.U32Read.{U32Read}
-use Rattle.decimal.specs.declared.U32Read.TheVariants as read
 use Rattle.network.specs.declared.IpAddr.{IpAddr}
 use Rattle.network.specs.declared.IpAddr.TheVariants.{V4, V6}
-use Rattle.elem.specs.declared.OptAsn.{OptAsn}
-use Rattle.elem.specs.declared.OptAsn.TheVariants as asn
-use Rattle.elem.specs.declared.OptOrigin.{OptOrigin}
-use Rattle.elem.specs.declared.OptOrigin.TheVariants as origin
+use Rattle.network.specs.declared.Asn.{Asn}
+use Rattle.elem.specs.declared.Origin.{Origin}
 use Rattle.elem.specs.declared.Origin.TheVariants.{IGP, EGP, INCOMPLETE}
 use Rattle.elem.specs.declared.Element.{Element}
 use Rattle.text_dump.specs.declared.Remembered.{Remembered}
@@ -40,20 +36,20 @@ known v = record { known = 1; value = v }
 abbrev pub missing : OptWords
 missing = record { known = 0; value = 0 }
 
-abbrev pub asn_words : OptAsn → OptWords
-asn_words (asn.Known a) = known a.0
-asn_words asn.Nothing = missing
+abbrev pub asn_words : Option Asn → OptWords
+asn_words (Some a) = known a.0
+asn_words None = missing
 
-abbrev pub number_words : U32Read → OptWords
-number_words (read.Number n) = known n
-number_words read.Nothing = missing
+abbrev pub number_words : Option ℕ → OptWords
+number_words (Some n) = known n
+number_words None = missing
 
 -- RFC 4271, 4.3: 0 IGP, 1 EGP, 2 INCOMPLETE
-abbrev pub origin_words : OptOrigin → OptWords
-origin_words (origin.Known IGP) = known 0
-origin_words (origin.Known EGP) = known 1
-origin_words (origin.Known INCOMPLETE) = known 2
-origin_words origin.Nothing = missing
+abbrev pub origin_words : Option Origin → OptWords
+origin_words (Some IGP) = known 0
+origin_words (Some EGP) = known 1
+origin_words (Some INCOMPLETE) = known 2
+origin_words None = missing
 
 -- where a state stands: what it remembers, and its position
 abbrev pub cursor_with : RememberedWords → ℕ → List ℕ

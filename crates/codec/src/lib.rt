@@ -1,19 +1,16 @@
 // The reading state and the element as words of 64 bits, a slot for each field (docs/LAYOUT.md).
 #![tactic(auto)]
 
-ghost use Rattle.std.specs.Prelude.{◌≡◌, true};
-ghost use Rattle.std.proofs.Math.Option.{some};
+ghost use Rattle.std.specs.Prelude.{is_some, ◌≡◌, true};
 ghost use Rattle.std.specs.Float.{binary64};
 ghost use Rattle.std.specs.Float.Ieee.{to_bits, of_bits};
 ghost use Rattle.seconds.specs.Seconds.{is_timestamp};
 ghost use Rattle.codec.specs.Words.{address_words, remembered_words, asn_words, origin_words, number_words, state_words, cursor_words, element_words};
-ghost use Rattle.codec.specs.Spelling.{is_some, address_of, remembered_of, state_but_time, state_of, as_state};
+ghost use Rattle.codec.specs.Spelling.{address_of, remembered_of, state_but_time, state_of};
 
 use columns::Columns;
-use decimal::U32Read;
-use elem::{Element, OptAsn, OptOrigin, Origin};
+use elem::{Element, Origin};
 use network::{Asn, IpAddr, NetworkPrefix};
-use seconds::TimestampRead;
 use text_dump::{Remembered, State};
 
 #[derive(Clone, Copy)]
@@ -37,12 +34,6 @@ struct OptWords {
     value: u64,
 }
 
-#[derive(Clone, Copy)]
-pub enum StateRead {
-    State(State),
-    Nothing,
-}
-
 fn address_words(addr: IpAddr) -> AddressWords
     ensures { result ≡ address_words addr }
 {
@@ -50,7 +41,7 @@ fn address_words(addr: IpAddr) -> AddressWords
         IpAddr::V4(n) => AddressWords {
             kind: 0,
             upper: 0,
-            lower: n as u64,
+            lower: u64::from(n),
         },
         IpAddr::V6(upper, lower) => AddressWords {
             kind: 1,
@@ -78,51 +69,45 @@ fn remembered_words(m: Remembered) -> RememberedWords
         Remembered::Nothing => unused(0),
         Remembered::Invalid => unused(1),
         Remembered::Valid(p) => {
-            let prefix_addr = p.addr;
-            let addr = address_words(prefix_addr);
+            let addr = address_words(p.addr);
             RememberedWords {
                 kind: 2,
                 addr,
-                len: p.len as u64,
+                len: u64::from(p.len),
             }
         }
     }
 }
 
-fn asn_words(asn: OptAsn) -> OptWords
+fn opt_words(value: Option<u64>) -> OptWords
+    ensures { result ≡ number_words value }
+{
+    match value {
+        Some(value) => OptWords { known: 1, value },
+        None => OptWords { known: 0, value: 0 },
+    }
+}
+
+fn asn_words(asn: Option<Asn>) -> OptWords
     ensures { result ≡ asn_words asn }
 {
-    match asn {
-        OptAsn::Known(a) => OptWords {
-            known: 1,
-            value: a.0 as u64,
-        },
-        OptAsn::Nothing => OptWords { known: 0, value: 0 },
-    }
+    opt_words(asn.map(|a| u64::from(a.0)))
 }
 
-fn number_words(n: U32Read) -> OptWords
+fn number_words(n: Option<u32>) -> OptWords
     ensures { result ≡ number_words n }
 {
-    match n {
-        U32Read::Number(v) => OptWords {
-            known: 1,
-            value: v as u64,
-        },
-        U32Read::Nothing => OptWords { known: 0, value: 0 },
-    }
+    opt_words(n.map(u64::from))
 }
 
-fn origin_words(o: OptOrigin) -> OptWords
+fn origin_words(o: Option<Origin>) -> OptWords
     ensures { result ≡ origin_words o }
 {
-    let OptOrigin::Known(origin) = o else {
-        return OptWords { known: 0, value: 0 };
-    };
-    match origin {
-        Origin::IGP => OptWords { known: 1, value: 0 },
-        Origin::EGP => OptWords { known: 1, value: 1 },
-        Origin::INCOMPLETE => OptWords { known: 1, value: 2 },
+    match o {
+        Some(Origin::IGP) => opt_words(Some(0)),
+        Some(Origin::EGP) => opt_words(Some(1)),
+        Some(Origin::INCOMPLETE) => opt_words(Some(2)),
+        None => opt_words(None),
     }
 }
 
@@ -131,23 +116,19 @@ fn bits_of(t: f64) -> u64
     ensures { result ≡ to_bits binary64 t }
 {
     if t == t {
-        return f64::to_bits(t);
+        t.to_bits()
+    } else {
+        0x7ff8_0000_0000_0000
     }
-    0x7ff8_0000_0000_0000
 }
 
 pub fn state_words(s: State) -> [u64; 16]
     ensures { result ≡ state_words s }
 {
     let c = s.columns;
-    let peer_ip = s.peer_ip;
-    let asn = s.peer_asn;
-    let timestamp = s.timestamp;
-    let remembered = s.remembered;
-    let peer = address_words(peer_ip);
-    let bits = bits_of(timestamp);
-    let m = remembered_words(remembered);
-    let prefix = m.addr;
+    let peer = address_words(s.peer_ip);
+    let bits = bits_of(s.timestamp);
+    let m = remembered_words(s.remembered);
     [
         c.next_hop as u64,
         c.metric as u64,
@@ -157,12 +138,12 @@ pub fn state_words(s: State) -> [u64; 16]
         peer.kind,
         peer.upper,
         peer.lower,
-        asn.0 as u64,
+        s.peer_asn.0 as u64,
         bits,
         m.kind,
-        prefix.kind,
-        prefix.upper,
-        prefix.lower,
+        m.addr.kind,
+        m.addr.upper,
+        m.addr.lower,
         m.len,
         s.position as u64,
     ]
@@ -173,12 +154,11 @@ pub fn cursor_words(remembered: Remembered, position: usize) -> [u64; 6]
     ensures { result ≡ cursor_words remembered position }
 {
     let words = remembered_words(remembered);
-    let addr = words.addr;
     [
         words.kind,
-        addr.kind,
-        addr.upper,
-        addr.lower,
+        words.addr.kind,
+        words.addr.upper,
+        words.addr.lower,
         words.len,
         position as u64,
     ]
@@ -187,35 +167,25 @@ pub fn cursor_words(remembered: Remembered, position: usize) -> [u64; 6]
 pub fn element_words(e: Element) -> [u64; 22]
     ensures { result ≡ element_words e }
 {
-    let timestamp = e.timestamp;
-    let peer_ip = e.peer_ip;
-    let asn = e.peer_asn;
-    let p = e.prefix;
-    let prefix_addr = p.addr;
-    let next_hop = e.next_hop;
-    let origin_asn = e.origin_asn;
-    let origin = e.origin;
-    let local_pref = e.local_pref;
-    let metric = e.metric;
-    let bits = bits_of(timestamp);
-    let peer = address_words(peer_ip);
-    let prefix = address_words(prefix_addr);
-    let hop = address_words(next_hop);
-    let origin_as = asn_words(origin_asn);
-    let by = origin_words(origin);
-    let pref = number_words(local_pref);
-    let med = number_words(metric);
+    let bits = bits_of(e.timestamp);
+    let peer = address_words(e.peer_ip);
+    let prefix = address_words(e.prefix.addr);
+    let hop = address_words(e.next_hop);
+    let origin_as = asn_words(e.origin_asn);
+    let by = origin_words(e.origin);
+    let pref = number_words(e.local_pref);
+    let med = number_words(e.metric);
     [
         e.announce as u64,
         bits,
         peer.kind,
         peer.upper,
         peer.lower,
-        asn.0 as u64,
+        e.peer_asn.0 as u64,
         prefix.kind,
         prefix.upper,
         prefix.lower,
-        p.len as u64,
+        e.prefix.len as u64,
         hop.kind,
         hop.upper,
         hop.lower,
@@ -240,10 +210,7 @@ fn is_address(kind: u64, upper: u64, lower: u64) -> bool
 fn are_timestamp_bits(bits: u64) -> bool
     ensures { result ≡ is_timestamp (of_bits binary64 bits) }
 {
-    match seconds::timestamp_of_bits(bits) {
-        TimestampRead::Timestamp(_) => true,
-        TimestampRead::Nothing => false,
-    }
+    matches!(seconds::timestamp_of_bits(bits), Some(_))
 }
 
 fn is_remembered(remembered: u64, kind: u64, upper: u64, lower: u64, len: u64) -> bool
@@ -268,7 +235,7 @@ pub fn is_state(w: &[u64; 16]) -> bool
 // This conversion and the next test nothing again.
 fn address_of(kind: u64, upper: u64, lower: u64) -> IpAddr
     requires { is_some (address_of kind upper lower) ≡ true }
-    ensures { address_of kind upper lower ≡ some result }
+    ensures { address_of kind upper lower ≡ Some result }
 {
     if kind == 1 {
         return IpAddr::V6(upper, lower);
@@ -278,7 +245,7 @@ fn address_of(kind: u64, upper: u64, lower: u64) -> IpAddr
 
 fn remembered_of(remembered: u64, kind: u64, upper: u64, lower: u64, len: u64) -> Remembered
     requires { is_some (remembered_of remembered kind upper lower len) ≡ true }
-    ensures { remembered_of remembered kind upper lower len ≡ some result }
+    ensures { remembered_of remembered kind upper lower len ≡ Some result }
 {
     if remembered == 2 {
         let addr = address_of(kind, upper, lower);
@@ -304,12 +271,12 @@ fn float_of(bits: u64) -> f64
 }
 
 // The state that the words spell with any bits as its timestamp; Nothing where they spell none. It is for next, which refuses what is no timestamp itself.
-pub fn state_but_time(w: [u64; 16]) -> StateRead
-    ensures { result ≡ as_state (state_but_time w) }
+pub fn state_but_time(w: [u64; 16]) -> Option<State>
+    ensures { result ≡ state_but_time w }
 {
     let is_peer = is_address(w[5], w[6], w[7]) & (w[8] <= 0xffff_ffff);
     if !(is_peer & is_remembered(w[10], w[11], w[12], w[13], w[14])) {
-        return StateRead::Nothing;
+        return None;
     }
     let peer_ip = address_of(w[5], w[6], w[7]);
     let timestamp = float_of(w[9]);
@@ -321,7 +288,7 @@ pub fn state_but_time(w: [u64; 16]) -> StateRead
         weight: w[3] as usize,
         path: w[4] as usize,
     };
-    StateRead::State(State {
+    Some(State {
         columns,
         peer_ip,
         peer_asn: Asn(w[8] as u32),

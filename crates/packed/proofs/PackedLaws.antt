@@ -1,6 +1,6 @@
 -- The remembered prefix as numbers.
 use Prim.Native.Nat.{ℕ, zero, suc, ◌%◌, ◌≤◌, ◌<◌}
-use mathlib.Core.Path.{◌≡◌, sym, ◌∙◌}
+use mathlib.Core.Path.{◌≡◌, sym}
 use mathlib.Core.Bool.{cond}
 use native.Mathlib.Omega.{arith}
 use mir.Syntax.{w8, w32}
@@ -9,12 +9,6 @@ use lib.Dec.{eqb}
 use borrow.Author.Tests.{ne_eqb}
 use Rattle.network.specs.declared.IpAddr.TheVariants.{V4, V6}
 use Rattle.network.specs.declared.NetworkPrefix.{NetworkPrefix}
-use Rattle.plain_reader.specs.Rules.{replace}
-use Rattle.text_dump_line.specs.declared.PrefixText.{PrefixText}
-use Rattle.text_dump_line.specs.declared.PrefixText.TheVariants as text
-use Rattle.text_dump.specs.State.{plain}
-use Rattle.text_dump.specs.Rules.{text_of}
-use Rattle.text_dump.specs.declared.Remembered.{Remembered}
 use Rattle.text_dump.specs.declared.Remembered.TheVariants.{Nothing, Invalid, Valid}
 use Rattle.packed.specs.Packed.{prefix_in, remembered_in}
 use Rattle.packed.specs.declared.Packed.{Packed}
@@ -31,49 +25,11 @@ module _ (p : NetworkPrefix) (len : Fits w8 p.len) where
   unfolding remembered_in
   kept_six u l f = rw (small, ← f)
 
--- what each is kept as
-pub kept_nothing : (k : Packed) → k ≡ record { kind = 0; version = 4; upper = 0; lower = 0; len = 0 } → (m : Remembered) → m ≡ Nothing → remembered_in k ≡ m
-unfolding remembered_in
-kept_nothing k e m f = rw (e, f)
-
-pub kept_invalid : (k : Packed) → k ≡ record { kind = 1; version = 4; upper = 0; lower = 0; len = 0 } → (m : Remembered) → m ≡ Invalid → remembered_in k ≡ m
-unfolding remembered_in
-kept_invalid k e m f = rw (e, f)
-
-pub kept_valid : (k : Packed) (p : NetworkPrefix) → remembered_in k ≡ Valid p → (m : Remembered) → m ≡ Valid p → remembered_in k ≡ m
-kept_valid k p e m f = e ∙ sym f
-
--- behind a route
-module _ (x : PrefixText) (k r : Packed) where
-  pub behind_invalid : x ≡ text.Invalid → r ≡ record { kind = 1; version = 4; upper = 0; lower = 0; len = 0 } → plain (remembered_in r) ≡ replace (text_of x) (plain (remembered_in k))
-  unfolding remembered_in
-  behind_invalid f e = rw (e, f)
-
-  pub behind_valid : (p : NetworkPrefix) → x ≡ text.Valid p → remembered_in r ≡ Valid p → plain (remembered_in r) ≡ replace (text_of x) (plain (remembered_in k))
-  behind_valid p f e = rw (e, f)
-
-pub behind_blank : (x : PrefixText) (k : Packed) → x ≡ text.Blank → plain (remembered_in k) ≡ replace (text_of x) (plain (remembered_in k))
-behind_blank x k f = rw f
-
 -- back
 module _ (k : Packed) where
-  pub back_nothing : k.kind ≡ 0 → Nothing ≡ remembered_in k
-  unfolding remembered_in
-  back_nothing h = rw h
-
-  pub back_invalid : k.kind ≡ 1 → Invalid ≡ remembered_in k
-  unfolding remembered_in
-  back_invalid h = rw h
-
   pub back_valid : (k.kind ≡ 0 → ⊥) → (k.kind ≡ 1 → ⊥) → (p : NetworkPrefix) → p ≡ prefix_in k → Valid p ≡ remembered_in k
   unfolding remembered_in
   back_valid h g p e = rw (ne_eqb k.kind 0 h, ne_eqb k.kind 1 g, e)
-
-  pub prefix_six : k.version ≡ 6 → record { addr = V6 k.upper k.lower; len = k.len % 256 } ≡ prefix_in k
-  prefix_six h = rw h
-
-  pub prefix_four : (k.version ≡ 6 → ⊥) → record { addr = V4 (k.lower % 4294967296); len = k.len % 256 } ≡ prefix_in k
-  prefix_four h = rw (ne_eqb k.version 6 h)
 
   -- whether there is a prefix, as the kind tells
   pub bare_kind : k.kind < 2 → (p : NetworkPrefix) → remembered_in k ≡ Valid p → ⊥
@@ -87,3 +43,6 @@ module _ (k : Packed) where
 
   pub valid_kind : 2 ≤ k.kind → (p : NetworkPrefix) → p ≡ prefix_in k → remembered_in k ≡ Valid p
   valid_kind h p e = sym (back_valid (λ z. omega arith) (λ z. omega arith) p e)
+
+-- for pack_prefix
+pub ruleset kept_laws = (kept_four, kept_six)

@@ -12,6 +12,7 @@ use network::{IpAddr, NetworkPrefix};
 use text_dump::Remembered;
 use text_dump_line::PrefixText;
 
+// Stays numbers, not an enum: one that holds a struct is copied in pieces that stall the processor.
 // 0 nothing, 1 invalid text, 2 a prefix; then the version of its address, 4 or 6, the address in two halves, and its length.
 #[derive(Clone, Copy)]
 pub struct Packed {
@@ -34,28 +35,29 @@ fn no_prefix(kind: u64) -> Packed
     }
 }
 
+#[tactic(auto, using(crate::proofs::PackedLaws::kept_laws))]
 pub fn pack_prefix(p: NetworkPrefix) -> Packed
     ensures { remembered_in result ≡ Valid p }
 {
-    let addr = p.addr;
-    match addr {
+    match p.addr {
         IpAddr::V4(n) => Packed {
             kind: 2,
             version: 4,
             upper: 0,
-            lower: n as u64,
-            len: p.len as u64,
+            lower: u64::from(n),
+            len: u64::from(p.len),
         },
         IpAddr::V6(upper, lower) => Packed {
             kind: 2,
             version: 6,
             upper,
             lower,
-            len: p.len as u64,
+            len: u64::from(p.len),
         },
     }
 }
 
+#[tactic(auto, unfolding(crate::specs::Packed::remembered_in))]
 pub fn pack(m: Remembered) -> Packed
     ensures { remembered_in result ≡ m }
 {
@@ -69,32 +71,30 @@ pub fn pack(m: Remembered) -> Packed
 pub fn prefix_of(k: Packed) -> NetworkPrefix
     ensures { result ≡ prefix_in k }
 {
-    let len = (k.len % 256) as u8;
-    if k.version == 6 {
-        return NetworkPrefix {
-            addr: IpAddr::V6(k.upper, k.lower),
-            len,
-        };
-    }
+    let addr = if k.version == 6 {
+        IpAddr::V6(k.upper, k.lower)
+    } else {
+        IpAddr::V4((k.lower % 4294967296) as u32)
+    };
     NetworkPrefix {
-        addr: IpAddr::V4((k.lower % 4294967296) as u32),
-        len,
+        addr,
+        len: (k.len % 256) as u8,
     }
 }
 
+#[tactic(auto, unfolding(crate::specs::Packed::remembered_in))]
 pub fn unpack(k: Packed) -> Remembered
     ensures { result ≡ remembered_in k }
 {
-    if k.kind == 0 {
-        return Remembered::Nothing;
+    match k.kind {
+        0 => Remembered::Nothing,
+        1 => Remembered::Invalid,
+        _ => Remembered::Valid(prefix_of(k)),
     }
-    if k.kind == 1 {
-        return Remembered::Invalid;
-    }
-    Remembered::Valid(prefix_of(k))
 }
 
 // Behind a route with that prefix text.
+#[tactic(auto, unfolding(crate::specs::Packed::remembered_in))]
 pub fn pack_behind(text: PrefixText, k: Packed) -> Packed
     ensures { plain (remembered_in result) ≡ replace (text_of text) (plain (remembered_in k)) }
 {

@@ -1,15 +1,15 @@
 -- Laws of the quick ways: a plain number, and a lone byte at the end.
+use Rattle.std.specs.Prelude.{Some, None}
 use Prim.Native.Nat.{ℕ, suc, ◌+◌, ◌-◌, ◌*◌, ◌/◌, ◌%◌, ◌^◌, ◌≤◌, ◌<◌}
 use native.Mathlib.Nat.{pow-le-pow_right}
 use mathlib.Core.Path.{◌≡◌, refl, sym, ap, ◌∙◌}
-use mathlib.Core.Bool.{Bool, true, false, cond, not, ◌&&◌, ◌||◌}
+use mathlib.Core.Bool.{Bool, true, false, cond, not}
 use mathlib.Core.List.{List, [], ◌∷◌, ◌++◌, map, flatten}
-use mathlib.Core.Option.{some, none}
 use native.Mathlib.Omega.{arith}
 use lib.ListN.{length, get_or, take, drop, length-take, drop_of_length-le, take-append-drop, get_or-eq_default}
 use lib.Seq.{drop-cons, drop-drop, get_or-drop, get_or-take, take-take}
-use lib.Dec.{leb, ltb, eqb}
-use borrow.Author.Tests.{lt-ltb, le-ltb, leb-true, leb-false}
+use lib.Dec.{leb, eqb}
+use borrow.Author.Tests.{lt-ltb, leb-true, leb-false}
 use Rattle.word.specs.Word.{number, little_endian}
 use Rattle.word.proofs.Laws.{Bytes, drop_bytes, take_bytes, byte_at}
 use Rattle.scan.specs.Lists.{onto, non_empty, split_by}
@@ -18,8 +18,7 @@ use Rattle.utf8.specs.Utf8.{chars_from}
 use Rattle.utf8.proofs.CharLaws.{piece_pos, piece_le}
 use Rattle.utf8.proofs.CharsLaws.{chars_front}
 use Rattle.text.specs.White.{is_space, tokens}
-use Rattle.decimal.specs.Decimal.{is_digit, behind, digits, unsigned, below, as32, read_u32, leading, or_zero, first_digits}
-use Rattle.decimal.specs.declared.U32Read.TheVariants.{Number, Nothing as NoNumber}
+use Rattle.decimal.specs.Decimal.{is_digit, behind, digits, unsigned, below, read_u32, leading, or_zero, first_digits}
 use Rattle.decimal.specs.declared.FirstDigits.{FirstDigits}
 use Rattle.decimal.proofs.Laws.{digits_bound, unsigned_digits}
 use Rattle.decimal.proofs.Reading.{start}
@@ -30,11 +29,11 @@ use Rattle.path_text.specs.Walk.{asns_from, Takes, lone}
 use Rattle.path_text.proofs.TokensLaws.{parted, digits_token}
 
 -- a lone byte that is no digit is no number
-read_lone : (b : ℕ) → is_digit b ≡ false → read_u32 (b ∷ []) ≡ NoNumber
+read_lone : (b : ℕ) → is_digit b ≡ false → read_u32 (b ∷ []) ≡ None
 unfolding unsigned digits behind
 read_lone b f = go (eqb b 43)
   where
-    go : (z : Bool) → as32 (below (2 ^ 32) (cond z none (cond (is_digit b) (some (0 * 10 + (b - 48))) none))) ≡ NoNumber
+    go : (z : Bool) → (below (2 ^ 32) (cond z None (cond (is_digit b) (Some (0 * 10 + (b - 48))) None))) ≡ None
     go true = refl
     go false = rw f
 
@@ -62,17 +61,9 @@ pub lone_many : (s : List ℕ) (i : ℕ) → 1 < length s - i → false ≡ lone
 unfolding lone
 lone_many s i h = rw (drop-cons s i 0 (omega arith), drop-cons s (suc i) 0 (omega arith))
 
-no_digit : (b : ℕ) → (ltb b 48 || ltb 57 b) ≡ not (is_digit b)
-no_digit b = go (leb 48 b) (leb b 57) refl refl
-  where
-    go : (x y : Bool) → leb 48 b ≡ x → leb b 57 ≡ y → (ltb b 48 || ltb 57 b) ≡ not (x && y)
-    go true true f g = simp (le-ltb b 48 (leb-true 48 b f), le-ltb 57 b (leb-true b 57 g))
-    go true false f g = simp (le-ltb b 48 (leb-true 48 b f), lt-ltb 57 b (leb-false b 57 g))
-    go false y f g = simp (lt-ltb b 48 (leb-false 48 b f))
-
-pub lone_here : (s : List ℕ) (i : ℕ) → i < length s → length s - i ≤ 1 → (ltb (get_or s i 0) 48 || ltb 57 (get_or s i 0)) ≡ lone (drop i s)
+pub lone_here : (s : List ℕ) (i : ℕ) → i < length s → length s - i ≤ 1 → not (is_digit (get_or s i 0)) ≡ lone (drop i s)
 unfolding lone
-lone_here s i h l = rw (drop-cons s i 0 h, drop_of_length-le s {i = suc i} (omega arith)) (no_digit (get_or s i 0))
+lone_here s i h l = rw (drop-cons s i 0 h, drop_of_length-le s {i = suc i} (omega arith)) refl
 
 -- a place where the eight bytes from it on begin with n digits
 module _ (s : List ℕ) (at w n : ℕ) (bytes : Bytes s) (q : w ≡ number (take 8 (drop at s))) (f : n ≡ length (leading (little_endian w))) where
@@ -89,17 +80,17 @@ module _ (s : List ℕ) (at w n : ℕ) (bytes : Bytes s) (q : w ≡ number (take
   size : n ≡ length front
   size = f ∙ ap length read
 
-  made : behind 0 front ≡ some (first_digits w).value
+  made : behind 0 front ≡ Some (first_digits w).value
   unfolding first_digits front
-  made = leading_value 0 (take 8 (drop at s)) ∙ ap some (sym (ap (λ d. or_zero (behind 0 d)) read))
+  made = leading_value 0 (take 8 (drop at s)) ∙ ap Some (sym (ap (λ d. or_zero (behind 0 d)) read))
 
   -- none, and the place is the last: a lone byte that is no digit
   pub last_none : n ≡ 0 → length s ≡ at + 1 → asns_from s at ≡ []
   unfolding front lone leading
   last_none z l =
       let one : drop at s ≡ get_or s at 0 ∷ [] = drop-cons s at 0 (omega arith) ∙ rw (drop_of_length-le s {i = suc at} (omega arith)) in
-      let none : length (leading (get_or s at 0 ∷ [])) ≡ 0 = rw one at (sym size ∙ z) in
-      lone_none (drop at s) (rw one (go (is_digit (get_or s at 0)) none))
+      let None : length (leading (get_or s at 0 ∷ [])) ≡ 0 = rw one at (sym size ∙ z) in
+      lone_none (drop at s) (rw one (go (is_digit (get_or s at 0)) None))
     where
       go : (b : Bool) → length (cond b (get_or s at 0 ∷ []) []) ≡ 0 → not b ≡ true
       go true h = absurd (omega arith)
@@ -138,7 +129,7 @@ module _ (s : List ℕ) (at w n : ℕ) (bytes : Bytes s) (q : w ≡ number (take
         ∙ ap (λ l. front ++ l) (drop-drop n at s ∙ rw (drop-cons s (at + n) 0 counted_inside, counted_space, k))
 
     module _ (some-count : n ≡ 0 → ⊥) where
-      some_digit : digits front ≡ some (first_digits w).value
+      some_digit : digits front ≡ Some (first_digits w).value
       some_digit = start front (λ z. some-count (size ∙ z)) ∙ made
 
       pub counted_found : Takes s at (first_digits w).value (at + n + 1)
@@ -148,10 +139,10 @@ module _ (s : List ℕ) (at w n : ℕ) (bytes : Bytes s) (q : w ≡ number (take
           let rest = drop (at + n + 1) s in
           let cut : tokens (drop at s) ≡ front ∷ tokens rest = ap tokens whole ∙ parted front rest ∙ ap (λ x. x ++ tokens rest) (digits_token v front some_digit) in
           let low : 10 ^ length front ≤ 10 ^ 7 = pow-le-pow_right (omega arith) {j = 7} (omega (arith, size)) in
-          let reads : read_u32 front ≡ Number v = rw (unsigned_digits v front some_digit, lt-ltb v (2 ^ 32) (omega (arith, digits_bound v front some_digit))) in
+          let reads : read_u32 front ≡ Some v = rw (unsigned_digits v front some_digit, lt-ltb v (2 ^ 32) (omega (arith, digits_bound v front some_digit))) in
           (record { later = omega arith; inside = omega (arith, counted_inside) }, rw (cut, reads))
 
-      pub counted_digits : digits (take n (drop at s)) ≡ some (first_digits w).value
+      pub counted_digits : digits (take n (drop at s)) ≡ Some (first_digits w).value
       counted_digits = rw there some_digit
 
       -- their first is the word's lowest byte
@@ -171,3 +162,6 @@ module _ (s : List ℕ) (at w : ℕ) (r : FirstDigits) (bytes : Bytes s) (q : w 
 
   pub plain_found : (r.count ≡ 0 → ⊥) → w / 2 ^ (8 * r.count) % 256 ≡ 32 → Takes s at r.value (at + r.count + 1)
   plain_found some-count space = rw (ap (λ x. x.value) f) (counted_found s at w r.count bytes q count few space some-count)
+
+-- for is_lone
+pub ruleset lone_laws = (lone_past, lone_many, lone_here)

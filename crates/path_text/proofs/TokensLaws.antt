@@ -1,9 +1,9 @@
 -- Tokens of a text that a space parts, and of digits.
+use Rattle.std.specs.Prelude.{Some}
 use Prim.Native.Nat.{ℕ, ◌+◌, ◌-◌, ◌*◌, ◌≤◌, ◌<◌}
 use mathlib.Core.Path.{◌≡◌, refl, ap, ◌∙◌}
 use mathlib.Core.Bool.{Bool, true, false, cond}
 use mathlib.Core.List.{List, [], ◌∷◌, ◌++◌, map, map-append, flatten}
-use mathlib.Core.Option.{some}
 use native.Mathlib.Omega.{arith}
 use lib.ListN.{length}
 use borrow.Author.Tests.{le-leb}
@@ -76,16 +76,16 @@ unfolding chars_from
 no_chars = refl
 
 -- digits are one piece
-one_piece : (v n : ℕ) (d : List ℕ) → behind v d ≡ some n → split_by is_space (chars d) ≡ chars d ∷ []
+one_piece : (v n : ℕ) (d : List ℕ) → behind v d ≡ Some n → split_by is_space (chars d) ≡ chars d ∷ []
 unfolding split_by onto
 one_piece v n [] e = rw no_chars
 one_piece v n (b ∷ d) e =
-    let f : (is_digit b ≡ true) × (behind (v * 10 + (b - 48)) d ≡ some n) = behind_cons v b n d e in
+    let f : (is_digit b ≡ true) × (behind (v * 10 + (b - 48)) d ≡ Some n) = behind_cons v b n d e in
     let c : chars (b ∷ d) ≡ (b ∷ []) ∷ chars d = chars_ascii b d (omega (arith, digit_high b f.0)) in
     rw (c, visible b (omega (arith, digit_low b f.0)) (omega (arith, digit_high b f.0)), one_piece (v * 10 + (b - 48)) n d f.1)
 
 -- and a token
-pub digits_token : (n : ℕ) (d : List ℕ) → digits d ≡ some n → tokens d ≡ d ∷ []
+pub digits_token : (n : ℕ) (d : List ℕ) → digits d ≡ Some n → tokens d ≡ d ∷ []
 unfolding digits non_empty flatten
 digits_token n [] e = absurd (none_some e)
 digits_token n (b ∷ d) e = go (chars (b ∷ d)) (flatten_chars (b ∷ d)) (one_piece 0 n (b ∷ d) e)

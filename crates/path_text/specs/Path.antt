@@ -1,17 +1,13 @@
 -- What the path's part of a line says (01, Body lines).
-use Rattle.std.specs.Prelude.{ℕ, Bool, true, false, cond, List, [], ◌∷◌, length, leb}
-use Rattle.std.proofs.Math.Option.{Option, some, none}
+use Rattle.std.specs.Prelude.{ℕ, Bool, true, false, cond, List, [], ◌∷◌, length, leb, Option, Some, None, Result, Ok, Err}
 use Rattle.scan.specs.Ascii.{ascii}
 use Rattle.scan.specs.Search.{equal}
 use Rattle.text.specs.White.{tokens}
 use Rattle.decimal.specs.Decimal.{read_u32}
-use Rattle.decimal.specs.declared.U32Read.{U32Read}
-use Rattle.decimal.specs.declared.U32Read.TheVariants.{Number, Nothing as NoNumber}
 use Rattle.elem.specs.declared.Origin.TheVariants.{IGP, EGP, INCOMPLETE}
-use Rattle.elem.specs.declared.OptOrigin.{OptOrigin}
-use Rattle.elem.specs.declared.OptOrigin.TheVariants.{Known, Nothing}
-use Rattle.path_text.specs.declared.AsnsPut.{AsnsPut}
-use Rattle.path_text.specs.declared.AsnsPut.TheVariants.{Wrote, TooFew}
+use Rattle.elem.specs.declared.Origin.{Origin}
+use Rattle.path_text.specs.declared.AsnsError.{AsnsError}
+use Rattle.path_text.specs.declared.AsnsError.TheVariants.{TooFewPlaces}
 
 -- the last of some tokens, else w
 unfoldable pub last_or : List ℕ → List (List ℕ) → List ℕ
@@ -23,16 +19,16 @@ unfoldable pub last_token : List ℕ → List ℕ
 last_token s = last_or [] (tokens s)
 
 -- `i`, `e` and `?` are the origins, and nothing else is
-unfoldable pub letter : List ℕ → OptOrigin
-letter w = cond (equal w (ascii "i")) (Known IGP) (cond (equal w (ascii "e")) (Known EGP) (cond (equal w (ascii "?")) (Known INCOMPLETE) Nothing))
+unfoldable pub letter : List ℕ → Option Origin
+letter w = cond (equal w (ascii "i")) (Some IGP) (cond (equal w (ascii "e")) (Some EGP) (cond (equal w (ascii "?")) (Some INCOMPLETE) None))
 
 -- the origin is the last token, where that is one of them
-abbrev pub origin_of : List ℕ → OptOrigin
+abbrev pub origin_of : List ℕ → Option Origin
 origin_of s = letter (last_token s)
 
-abbrev pub is_known : OptOrigin → Bool
-is_known (Known o) = true
-is_known Nothing = false
+abbrev pub is_known : Option Origin → Bool
+is_known (Some o) = true
+is_known None = false
 
 -- a last token that is an origin is taken off, and no other is
 unfoldable pub take_off : List (List ℕ) → List (List ℕ)
@@ -41,9 +37,9 @@ take_off (w ∷ []) = cond (is_known (letter w)) [] (w ∷ [])
 take_off (w ∷ x ∷ ws) = w ∷ take_off (x ∷ ws)
 
 -- a number in front of others, if it is one
-abbrev pub if_number : U32Read → List ℕ → List ℕ
-if_number (Number n) l = n ∷ l
-if_number NoNumber l = l
+abbrev pub if_number : Option ℕ → List ℕ → List ℕ
+if_number (Some n) l = n ∷ l
+if_number None l = l
 
 -- the tokens that read as u32, others dropped
 unfoldable pub numbers : List (List ℕ) → List ℕ
@@ -55,10 +51,10 @@ unfoldable pub asns_of : List ℕ → List ℕ
 asns_of s = numbers (take_off (tokens s))
 
 -- all of the numbers into a lent list, or a refusal
-unfoldable pub put_answer : List ℕ → List ℕ → AsnsPut
-put_answer asns out = cond (leb (length asns) (length out)) (Wrote (length asns)) TooFew
+unfoldable pub put_answer : List ℕ → List ℕ → Result ℕ AsnsError
+put_answer asns out = cond (leb (length asns) (length out)) (Ok (length asns)) (Err TooFewPlaces)
 
 -- 01's number of the refusal (01, Where a call says no)
-abbrev pub refusal : AsnsPut → Option ℕ
-refusal (Wrote n) = none
-refusal TooFew = some 7
+abbrev pub refusal : Result ℕ AsnsError → Option ℕ
+refusal (Ok n) = None
+refusal (Err TooFewPlaces) = Some 7

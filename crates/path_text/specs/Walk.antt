@@ -1,12 +1,8 @@
 -- The walk over a path's AS numbers, for the functions that take a step of it.
-use Rattle.std.specs.Prelude.{ℕ, ◌≤◌, ◌<◌, ◌≡◌, Bool, false, not, List, [], ◌∷◌, length, drop}
+use Rattle.std.specs.Prelude.{ℕ, ◌≤◌, ◌<◌, ◌≡◌, Bool, false, not, List, [], ◌∷◌, length, drop, Option, Some, None}
 use Rattle.decimal.specs.Decimal.{is_digit}
 use Rattle.text.specs.White.{tokens}
 use Rattle.path_text.specs.Path.{numbers}
-use Rattle.path_text.specs.declared.Plain.{Plain}
-use Rattle.path_text.specs.declared.Plain.TheVariants.{Number as PlainNumber, Other as NoPlain}
-use Rattle.path_text.specs.declared.NextAsn.{NextAsn}
-use Rattle.path_text.specs.declared.NextAsn.TheVariants.{Number, Other, End}
 
 -- the AS numbers from the place i on
 abbrev pub asns_from : List ℕ → ℕ → List ℕ
@@ -22,14 +18,19 @@ abbrev pub Takes : List ℕ → ℕ → ℕ → ℕ → Type 0
 Takes s i x e = Steps s i e × (asns_from s i ≡ x ∷ asns_from s e)
 
 -- what is told of a plain number; of others nothing is
-abbrev pub IsPlain : List ℕ → ℕ → Plain → Type 0
-IsPlain s i (PlainNumber x e) = Takes s i x e
-IsPlain s i NoPlain = Unit {0}
+abbrev pub IsPlain : List ℕ → ℕ → Option (ℕ × ℕ) → Type 0
+IsPlain s i (Some t) = Takes s i t.0 t.1
+IsPlain s i None = Unit {0}
 
-abbrev pub Finds : List ℕ → ℕ → NextAsn → Type 0
-Finds s i (Number x e) = Takes s i x e
-Finds s i (Other e) = Steps s i e × (asns_from s i ≡ asns_from s e)
-Finds s i End = asns_from s i ≡ []
+-- a number in front of others, if there is one
+abbrev pub in_front : Option ℕ → List ℕ → List ℕ
+in_front (Some x) l = x ∷ l
+in_front None l = l
+
+-- what is told of the next token: its number, if it is one, is the next of them, and the place e is behind it; at the path's end none are left
+abbrev pub Finds : List ℕ → ℕ → Option (Option ℕ × ℕ) → Type 0
+Finds s i (Some t) = Steps s i t.1 × (asns_from s i ≡ in_front t.0 (asns_from s t.1))
+Finds s i None = asns_from s i ≡ []
 
 -- one byte that is no digit
 unfoldable pub lone : List ℕ → Bool

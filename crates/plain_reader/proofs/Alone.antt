@@ -1,8 +1,8 @@
 -- A text read alone: calls that have said End in it find `alone`, and there are such calls wherever its lines are readable and the places suffice.
+use Rattle.std.specs.Prelude.{None}
 use Prim.Native.Nat.{ℕ, zero, suc, ◌<◌}
 use mathlib.Core.Path.{◌≡◌}
 use mathlib.Core.List.{List, [], ◌∷◌, map}
-use mathlib.Core.Option.{none}
 use native.Mathlib.Omega.{arith}
 use lib.ListN.{length, replicate}
 use Rattle.plain_reader.specs.Lists.{Each}
@@ -28,7 +28,7 @@ module _ (L : Rules) (k : L.Places) where
   gets n (six c) h f = absurd (rw c at f).0
   gets n (passes y c d e s) h f = gets n s (omega arith) f.1
   gets n (yields {l = l} t r p c e b) h f = got_element (L.yield p r) (valid p) l h f.1
-  gets n (refuses t r p i c e b) h f = let w : L.refusal k r ≡ none = (rw c at f).0 in let z : ◌≡◌ {A = ℕ} 0 1 = cc in absurd (omega arith)
+  gets n (refuses t r p i c e b) h f = let w : L.refusal k r ≡ None = (rw c at f).0 in let z : ◌≡◌ {A = ℕ} 0 1 = cc in absurd (omega arith)
 
   -- so many calls of next say End
   say_end : (n : ℕ) (σ : PlainState L.Prefix) → length σ.left < n → Enough σ.left → Ends (run (plain L) (replicate n (next k)) σ [] []).here

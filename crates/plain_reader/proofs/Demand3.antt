@@ -1,9 +1,9 @@
 -- Demand 3, for every reader that implements the reading by position.
+use Rattle.std.specs.Prelude.{Option, Some}
 use Prim.Native.Nat.{ℕ, ◌+◌}
 use mathlib.Core.Path.{◌≡◌, refl, sym, ap, ◌∙◌}
 use mathlib.Core.List.{List, [], ◌∷◌, ◌++◌, map, flatten, tail, sum, append-nil, map-map}
-use mathlib.Core.Option
-use mathlib.Core.Option.{Option, some}
+use Rattle.std.specs.Option.{option_map}
 use lib.ListN.{length}
 use Rattle.plain_reader.specs.Lists.{Each}
 use Rattle.scan.specs.Lines.{lines, Cuts}
@@ -52,7 +52,7 @@ module _ (L : Rules) where
   pub demand_3 : (A : Reader L) (I : Implements L A) (opening : List ℕ → Option A.State) (header : List ℕ) → Accepts L A I opening header
       → (ps : List (List ℕ)) (cs : List (Call L.Places)) → I.Takes (header ++ first ps) → Each I.Takes (tail ps) → Demand3 L A opening header ps cs
   demand_3 A I opening header a ps cs f fs = record {
-    same = ap (Option.map (λ (s : A.State). run A cs s (header ++ first ps) (tail ps))) (a.opens (first ps) f) ∙ ap some
+    same = ap (option_map (λ (s : A.State). run A cs s (header ++ first ps) (tail ps))) (a.opens (first ps) f) ∙ ap Some
         (same_trace L A (simulation L A I) cs a.start (opened (first ps)) (header ++ first ps) [] (tail ps)
         (f, a.starts_rest, rw a.starts_at tt, rw a.starts_at (open_view L header (first ps))) fs);
     readable = plain_readable L ps cs;

@@ -1,9 +1,9 @@
 -- A worked example: rules for a toy listing, its traces by computation, and a reader with a state of its own that gets demand 3.
+use Rattle.std.specs.Prelude.{Option, Some, None}
 use Prim.Native.Nat.{ℕ, ◌≤◌}
 use mathlib.Core.Path.{◌≡◌, refl}
 use mathlib.Core.Bool.{cond}
 use mathlib.Core.List.{List, [], ◌∷◌, map, flatten, tail}
-use mathlib.Core.Option.{Option, none, some}
 use lib.ListN.{length, get_or}
 use lib.Dec.{eqb, leb}
 use borrow.Author.Tests.{le-leb}
@@ -43,7 +43,7 @@ rules time = record {
   Places = ℕ;
   classify = toy;
   yield = λ p r. record { time = time; under = p; numbers = r };
-  refusal = λ k r. cond (leb r k) none (some 7);
+  refusal = λ k r. cond (leb r k) None (Some 7);
 }
 
 abbrev yields : ℕ → ℕ → Answer Element
@@ -108,7 +108,7 @@ reader time = record { State = State; next = next_toy; turn = λ p s. record { t
 
 -- its header is a lone line feed
 abbrev opening : ℕ → List ℕ → Option State
-opening time t = cond (eqb (get_or t 0 0) 10) (some (record { time = time; position = 1; prefix = nothing })) none
+opening time t = cond (eqb (get_or t 0 0) 10) (Some (record { time = time; position = 1; prefix = nothing })) None
 
 -- where the timestamp is the one opened with and the position lies in the text, next is the reading by position
 next_toy_is : (time : ℕ) (t : List ℕ) (k : ℕ) (s : State) → s.time ≡ time → s.position ≤ length t

@@ -1,8 +1,8 @@
 -- What a loop over the lines of a text needs: the reading by position, line by line. The loop's invariant is that next's answer is `come` of where it stands.
+use Rattle.std.specs.Prelude.{Some, None}
 use Prim.Native.Nat.{ℕ, ◌-◌, ◌≤◌, ◌<◌}
 use mathlib.Core.Path.{◌≡◌, refl, ap, ◌∙◌}
 use mathlib.Core.List.{List, flatten}
-use mathlib.Core.Option.{none, some}
 use native.Mathlib.Omega.{arith}
 use lib.ListN.{length, take, drop, length-drop}
 use Rattle.scan.specs.Lines.{lines, line_end, LineAt}
@@ -54,10 +54,10 @@ module _ (L : Rules) (t : List ℕ) (c : Cursor L.Prefix) (k : L.Places) where
       pub under_invalid : replace x m ≡ invalid → come i m ≡ come e invalid
       under_invalid g = meets (route x r) h ∙ rw g
 
-      pub yields : (p : L.Prefix) → replace x m ≡ valid p → L.refusal k r ≡ none → come i m ≡ (element (L.yield p r), record { at = e; remembered = valid p })
+      pub yields : (p : L.Prefix) → replace x m ≡ valid p → L.refusal k r ≡ None → come i m ≡ (element (L.yield p r), record { at = e; remembered = valid p })
       yields p g f =
           let b : e ≤ length t = omega (arith, line_end_inside t i (omega arith)) in
           meets (route x r) h ∙ rw (g, f) (ap (λ (q : Cursor L.Prefix). (element (L.yield p r), q)) (locate_at t e (valid p) b))
 
-      pub short : (p : L.Prefix) (n : ℕ) → replace x m ≡ valid p → L.refusal k r ≡ some n → c.at ≤ length t → come i m ≡ (refused n, c)
+      pub short : (p : L.Prefix) (n : ℕ) → replace x m ≡ valid p → L.refusal k r ≡ Some n → c.at ≤ length t → come i m ≡ (refused n, c)
       short p n g f b = meets (route x r) h ∙ rw (g, f) (refuses n b)

@@ -1,8 +1,8 @@
 -- How next goes through the lines, as a relation: each way that it can go is one constructor, so that a law of next has one line for each.
+use Rattle.std.specs.Prelude.{Option, Some, None}
 use Prim.Native.Nat.{ℕ}
 use mathlib.Core.Path.{◌≡◌, refl}
 use mathlib.Core.List.{List, [], ◌∷◌}
-use mathlib.Core.Option.{Option, none, some}
 use Rattle.plain_reader.specs.Rules.{Rules, Remembered, nothing, invalid, valid, Line, unreadable, passed, wrapped, route, replace}
 use Rattle.plain_reader.specs.Calls.{element, end, refused}
 use Rattle.plain_reader.specs.Plain.{PlainState, Step, answer, answer_under, take_line, take_lines}
@@ -25,9 +25,9 @@ module _ (L : Rules) (σ : PlainState L.Prefix) (k : L.Places) where
         → L.classify x ≡ y → Readable y → under L (after_line m y) (routes y) ≡ [] → Scan (after_line m y) l z → Scan m (x ∷ l) z
     -- a route under a valid prefix
     yields : {m : Remembered L.Prefix} {x : List ℕ} {l : List (List ℕ)} (t : Remembered L.Prefix) (r : L.Route) (p : L.Prefix)
-        → L.classify x ≡ route t r → replace t m ≡ valid p → L.refusal k r ≡ none → Scan m (x ∷ l) (element (L.yield p r), record { left = l; remembered = valid p })
+        → L.classify x ≡ route t r → replace t m ≡ valid p → L.refusal k r ≡ None → Scan m (x ∷ l) (element (L.yield p r), record { left = l; remembered = valid p })
     refuses : {m : Remembered L.Prefix} {x : List ℕ} {l : List (List ℕ)} (t : Remembered L.Prefix) (r : L.Route) (p : L.Prefix) (n : ℕ)
-        → L.classify x ≡ route t r → replace t m ≡ valid p → L.refusal k r ≡ some n → Scan m (x ∷ l) (refused n, σ)
+        → L.classify x ≡ route t r → replace t m ≡ valid p → L.refusal k r ≡ Some n → Scan m (x ∷ l) (refused n, σ)
 
   pub scan : (m : Remembered L.Prefix) (l : List (List ℕ)) → Scan m l (take_lines L σ k m l)
   unfolding take_lines
@@ -38,8 +38,8 @@ module _ (L : Rules) (σ : PlainState L.Prefix) (k : L.Places) where
       on m' = take_lines L σ k m' l
 
       answered : (t : Remembered L.Prefix) (r : L.Route) (p : L.Prefix) (o : Option ℕ) → L.classify x ≡ route t r → replace t m ≡ valid p → L.refusal k r ≡ o → Scan m (x ∷ l) (answer L σ k p r l o)
-      answered t r p none c h f = yields t r p c h f
-      answered t r p (some n) c h f = refuses t r p n c h f
+      answered t r p None c h f = yields t r p c h f
+      answered t r p (Some n) c h f = refuses t r p n c h f
 
       routed : (t : Remembered L.Prefix) (r : L.Route) (m' : Remembered L.Prefix) → L.classify x ≡ route t r → replace t m ≡ m' → Scan (replace t m) l (on (replace t m))
           → Scan m (x ∷ l) (answer_under L σ k m' r l (on (replace t m)))

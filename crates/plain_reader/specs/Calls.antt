@@ -1,7 +1,7 @@
 -- A list of calls, run on any reader of parts.
-use Rattle.std.specs.Prelude.{ℕ}
+use Rattle.std.specs.Prelude.{ℕ, Option}
 use mathlib.Core.List.{List, [], ◌∷◌, ◌++◌, tail}
-use Rattle.std.proofs.Math.Option.{Option, map}
+use Rattle.std.specs.Option.{option_map}
 use Rattle.plain_reader.specs.Rules.{Rules, Remembered}
 
 -- what next answers: an element, End, or a refusal with its number
@@ -57,4 +57,4 @@ module _ {L : Rules} where
 
     -- opening takes the header with the first part, and the calls begin in that same text; where opening refuses there is no trace
     abbrev pub trace : (List ℕ → Option A.State) → List ℕ → List (List ℕ) → List (Call L.Places) → Option (Trace L)
-    trace opening header ps cs = map (λ (s : A.State). run cs s (header ++ first ps) (tail ps)) (opening (header ++ first ps))
+    trace opening header ps cs = option_map (λ (s : A.State). run cs s (header ++ first ps) (tail ps)) (opening (header ++ first ps))

@@ -1,7 +1,6 @@
 -- Demand 3, over any rules and any reader.
-use Rattle.std.specs.Prelude.{ℕ, ◌+◌, ◌≡◌, length}
+use Rattle.std.specs.Prelude.{ℕ, ◌+◌, ◌≡◌, length, Option, Some}
 use mathlib.Core.List.{List, [], ◌∷◌, map, flatten, tail, sum}
-use Rattle.std.proofs.Math.Option.{Option, some}
 use Rattle.plain_reader.specs.Lists.{Each}
 use Rattle.scan.specs.Lines.{Cuts}
 use Rattle.plain_reader.specs.Rules.{Rules, nothing}
@@ -43,7 +42,7 @@ module _ (L : Rules) where
   pub record Demand3 (A : Reader L) (opening : List ℕ → Option A.State) (header : List ℕ) (ps : List (List ℕ)) (cs : List (Call L.Places)) : Type 0 where
     -- opening accepts, and all of next's answers, part by part, and the remembered prefix at the end are those of the plain reader;
     -- so what is said below of the plain reader's trace is said of this reader's
-    pub same : trace A opening header ps cs ≡ some (plain_trace L ps cs)
+    pub same : trace A opening header ps cs ≡ Some (plain_trace L ps cs)
     -- next says End in each part only where all lines are readable
     pub readable : Finished ps cs → Each (λ (p : List ℕ). Each Readable (classified L p)) ps
     -- a text that is read alone, as the only part, to its End gives the elements `alone`, whatever the calls

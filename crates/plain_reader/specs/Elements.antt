@@ -1,6 +1,5 @@
 -- What lines yield, line by line and part by part.
-use Rattle.std.specs.Prelude.{ℕ, ◌+◌, Bool, true, false, cond, List, [], ◌∷◌, ◌++◌, map, ◌≡◌, length}
-use Rattle.std.proofs.Math.Option.{none}
+use Rattle.std.specs.Prelude.{ℕ, ◌+◌, Bool, true, false, cond, List, [], ◌∷◌, ◌++◌, map, ◌≡◌, length, None}
 use Rattle.scan.specs.Lines.{lines}
 use Rattle.plain_reader.specs.Rules.{Rules, Remembered, nothing, invalid, valid, Line, unreadable, passed, wrapped, route, replace}
 
@@ -81,4 +80,4 @@ module _ (L : Rules) where
   Suffices k unreadable = ⊥
   Suffices k passed = Unit {0}
   Suffices k (wrapped p) = Unit {0}
-  Suffices k (route t r) = L.refusal k r ≡ none
+  Suffices k (route t r) = L.refusal k r ≡ None

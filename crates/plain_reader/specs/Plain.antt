@@ -1,7 +1,6 @@
 -- The plain reader (01, Reader), over any rules of lines.
-use Rattle.std.specs.Prelude.{ℕ}
+use Rattle.std.specs.Prelude.{ℕ, Option, Some, None}
 use mathlib.Core.List.{List, [], ◌∷◌, tail}
-use Rattle.std.proofs.Math.Option.{Option, none, some}
 use Rattle.scan.specs.Lines.{lines}
 use Rattle.plain_reader.specs.Rules.{Rules, Remembered, nothing, invalid, valid, Line, unreadable, passed, wrapped, route, replace}
 use Rattle.plain_reader.specs.Calls.{Answer, element, end, refused, Call, Reader, Trace, first, run}
@@ -27,8 +26,8 @@ module _ (L : Rules) where
   module _ (before : PlainState L.Prefix) (k : L.Places) where
     -- a route under a valid prefix, the lines l behind it: an element, or a refusal, and then all is as before that next
     abbrev pub answer : L.Prefix → L.Route → List (List ℕ) → Option ℕ → Step
-    answer p r l none = (element (L.yield p r), record { left = l; remembered = valid p })
-    answer p r l (some n) = (refused n, before)
+    answer p r l None = (element (L.yield p r), record { left = l; remembered = valid p })
+    answer p r l (Some n) = (refused n, before)
 
     -- a route under what is remembered: only under a valid prefix is it answered, and next goes on otherwise
     abbrev pub answer_under : Remembered L.Prefix → L.Route → List (List ℕ) → Step → Step

@@ -1,6 +1,5 @@
 -- What is to be shown of a reader, so that it keeps demand 3.
-use Rattle.std.specs.Prelude.{ℕ, ◌≤◌, ◌≡◌, List, ◌++◌, length}
-use Rattle.std.proofs.Math.Option.{Option, some}
+use Rattle.std.specs.Prelude.{ℕ, ◌≤◌, ◌≡◌, List, ◌++◌, length, Option, Some}
 use Rattle.plain_reader.specs.Rules.{Rules, Remembered, nothing, invalid, valid, Line, unreadable, passed, wrapped, route}
 use Rattle.plain_reader.specs.Calls.{Reader}
 use Rattle.plain_reader.specs.Cursor.{Cursor, after_header, to_start, next_at}
@@ -45,6 +44,6 @@ module _ (L : Rules) where
   -- opening accepts the header: whatever part stands behind it, opening answers one state, with the position behind the header and nothing remembered
   pub record Accepts (A : Reader L) (I : Implements A) (opening : List ℕ → Option A.State) (header : List ℕ) : Type 0 where
     pub start : A.State
-    pub opens : (p : List ℕ) → I.Takes (header ++ p) → opening (header ++ p) ≡ some start
+    pub opens : (p : List ℕ) → I.Takes (header ++ p) → opening (header ++ p) ≡ Some start
     pub starts_at : I.get start ≡ after_header header
     pub starts_rest : I.Rest start

@@ -1,6 +1,5 @@
 -- What a body line says, and the rules by which a reading goes.
-use Rattle.std.specs.Prelude.{ℕ, List}
-use Rattle.std.proofs.Math.Option.{Option}
+use Rattle.std.specs.Prelude.{ℕ, List, Option}
 
 -- the remembered prefix (01, Records: nothing, invalid text, or a prefix); a route's prefix text is one of the three too, nothing where it is blank
 pub data Remembered (P : Type 0) : Type 0 where

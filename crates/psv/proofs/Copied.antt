@@ -1,4 +1,5 @@
 -- Laws of a line put together from texts that are at hand.
+use Rattle.std.specs.Prelude.{Ok, Err}
 use mathlib.Core.Path.{◌≡◌, refl, sym, ◌∙◌}
 use mathlib.Core.List.{List, ◌++◌, append_assoc}
 use mathlib.Core.Bool.{Bool, true, false}
@@ -11,7 +12,7 @@ use denote.Laws.{Is}
 use denote.Struct.Declared as struct
 use borrow.Author.Tests.{le-leb, lt-leb, leb-true, leb-false}
 use Rattle.output.specs.Output.{Written, front, answer}
-use Rattle.output.specs.declared.Put.TheVariants.{Wrote, TooShort}
+use Rattle.output.specs.declared.PutError.TheVariants.{TooShort}
 use Rattle.output.proofs.Output.{then, kept, wrote, whole, too_short}
 use Rattle.aspath_display.specs.Display.{Measured}
 use Rattle.elem.specs.Element.{numbers}
@@ -67,12 +68,12 @@ module _ (begin path asn : List ℕ) (e : Element) (out : List ℕ) where
     unfolding texts_line
     fits_text = let n : 2 + length (attributes_text e) + length begin + length path + length asn ≡ length text = simp length-append (omega arith) in rw n at fits
 
-    pub texts_short : b ≡ false → (TooShort ≡ answer text out) × (out ≡ front text out)
+    pub texts_short : b ≡ false → ((Err TooShort) ≡ answer text out) × (out ≡ front text out)
     texts_short f =
         let l : length out < length text = leb-false (length text) (length out) (sym fits_text ∙ f) in
         (too_short text out (length text) refl l, kept text out (length text) refl l)
 
-    pub texts_put : b ≡ true → (o : List ℕ) (n : ℕ) → Written text out 0 o n → (Wrote n ≡ answer text out) × (o ≡ front text out)
+    pub texts_put : b ≡ true → (o : List ℕ) (n : ℕ) → Written text out 0 o n → (Ok n ≡ answer text out) × (o ≡ front text out)
     texts_put f o n w =
         let l : length text ≤ length out = leb-true (length text) (length out) (sym fits_text ∙ f) in
         (wrote text out (length text) refl o n l w, whole text out (length text) refl o n l w)

@@ -1,9 +1,9 @@
 -- How long a line can be: 90 bytes of front, 68 more before the path, 130 behind it, and 21 for each number with its separator.
 -- What an element's numbers are below comes from owning the element, `Is` (logic's Denote/Laws.antt).
+use Rattle.std.specs.Prelude.{Option, Some, None, Result, Ok, Err}
 use mathlib.Core.Path.{◌≡◌, refl, sym, ◌∙◌}
 use mathlib.Core.List.{List, [], ◌∷◌, ◌++◌}
 use mathlib.Core.Bool.{Bool, true, false}
-use mathlib.Core.Option.{Option, some, none}
 use Prim.Native.Nat.{ℕ, suc, ◌+◌, ◌*◌, ◌-◌, ◌/◌, ◌≤◌, ◌<◌}
 use native.Mathlib.Omega.{arith}
 use lib.ListN.{length, get_or, take, drop, length-append}
@@ -14,16 +14,15 @@ use mir.Syntax.{w8, w32}
 use mir.Val.{Val, Fits}
 use denote.Laws.{Is}
 use denote.Struct.Declared as struct
-use denote.Enum.Declared as enum
 use borrow.Author.Rules.{rules}
 use borrow.Author.Tests.{le-leb, lt-leb, leb-true, leb-false, ltb-true, ltb-false}
 use Rattle.decimal_display.specs.Printed.{decimal}
 use Rattle.decimal_display.proofs.Printed.{digits_most, negative_length, positive_length}
-use Rattle.decimal.specs.declared.U32Read.{U32Read}
-use Rattle.decimal.specs.declared.U32Read.TheVariants as read
-use Rattle.decimal.specs.contracts.U32Read as u32-read
+use Rattle.std.specs.Borrow.{u32}
+use Rattle.std.specs.contracts.option.Option as option
+use Rattle.network.specs.contracts.Asn as asn
 use Rattle.output.specs.Output.{Written, front, answer}
-use Rattle.output.specs.declared.Put.TheVariants as put
+use Rattle.output.specs.declared.PutError.TheVariants.{TooShort}
 use Rattle.output.proofs.Output.{kept, wrote, whole, too_short, all_written}
 use Rattle.network.specs.declared.Asn.{Asn}
 use Rattle.network.specs.declared.IpAddr.{IpAddr}
@@ -34,14 +33,10 @@ use Rattle.seconds.specs.Seconds.{second_of, timestamp_text}
 use Rattle.seconds.proofs.Inverse.{timestamp_of_second}
 use Rattle.aspath_display.specs.Display.{lead, separated, Measured}
 use Rattle.elem.specs.declared.Element.{Element}
-use Rattle.elem.specs.declared.OptAsn.{OptAsn}
-use Rattle.elem.specs.declared.OptAsn.TheVariants as asn
 use Rattle.elem.specs.declared.Origin.TheVariants.{IGP, EGP, INCOMPLETE}
-use Rattle.elem.specs.declared.OptOrigin.{OptOrigin}
-use Rattle.elem.specs.declared.OptOrigin.TheVariants as origin
+use Rattle.elem.specs.declared.Origin.{Origin}
 use Rattle.elem.specs.contracts.Element as element
-use Rattle.elem.specs.contracts.OptAsn as opt-asn
-use Rattle.psv.specs.declared.ElementPut.{ElementPut}
+use Rattle.psv.specs.declared.ElementError.{ElementError}
 use Rattle.psv.specs.Line.{time_text, sequence_text, asn_text, origin_text, number_text, start_text, front_text, peer_text, between_text, attributes_text, tail_text, rest_text, line_text, Printed}
 use Rattle.psv.proofs.Printing.{type_length, between_length, attributes_length, psv_tail_length, display_tail_length}
 
@@ -60,29 +55,29 @@ time_le t f = go (second_of t) refl
         omega (arith, positive_length s 62167219200 _ (ltb-false s 62167219200 e) refl, digits_most 19 (s - 62167219200) (omega arith))
 
     go : (m : Option ℕ) → second_of t ≡ m → length (time_text m) ≤ 21
-    go none e = omega arith
-    go (some s) e = second_le s (timestamp_of_second t s f e).0 (ltb s 62167219200) refl
+    go None e = omega arith
+    go (Some s) e = second_le s (timestamp_of_second t s f e).0 (ltb s 62167219200) refl
 
 prefix_le : (p : NetworkPrefix) → Fits w8 p.len → length (prefix_text p) ≤ 66
 prefix_le p f =
     omega (arith, prefix_length p (length (address_text p.addr)) (length (decimal p.len)) refl refl, address_le p.addr, digits_most 19 p.len (omega (arith, f.fits)))
 
-origin_le : (x : OptOrigin) → length (origin_text x) ≤ 10
+origin_le : (x : Option Origin) → length (origin_text x) ≤ 10
 unfolding origin_text
-origin_le (origin.Known IGP) = omega arith
-origin_le (origin.Known EGP) = omega arith
-origin_le (origin.Known INCOMPLETE) = omega arith
-origin_le origin.Nothing = omega arith
+origin_le (Some IGP) = omega arith
+origin_le (Some EGP) = omega arith
+origin_le (Some INCOMPLETE) = omega arith
+origin_le None = omega arith
 
-asn_le : (x : OptAsn) (vs : List Val) → Is (enum.row opt-asn.the_type) x vs → length (asn_text x) ≤ 20
+asn_le : (x : Option Asn) (vs : List Val) → Is (option.the_row asn.the_row) x vs → length (asn_text x) ≤ 20
 unfolding asn_text
-asn_le (asn.Known a) vs is = number_le a.0 (search rules)
-asn_le asn.Nothing vs is = omega arith
+asn_le (Some a) vs is = number_le a.0 (search rules)
+asn_le None vs is = omega arith
 
-u32_le : (x : U32Read) (vs : List Val) → Is (enum.row u32-read.the_type) x vs → length (number_text x) ≤ 20
+u32_le : (x : Option ℕ) (vs : List Val) → Is (option.the_row u32) x vs → length (number_text x) ≤ 20
 unfolding number_text
-u32_le (read.Number n) vs is = number_le n (search rules)
-u32_le read.Nothing vs is = omega arith
+u32_le (Some n) vs is = number_le n (search rules)
+u32_le None vs is = omega arith
 
 sequence_le : (first : Bool) (ns : List ℕ) → ((i : ℕ) → Fits w32 (get_or ns i 0)) → length (separated 32 decimal first ns) ≤ 21 * length ns
 unfolding separated
@@ -145,17 +140,17 @@ module _ (announce : Bool) (t : Float) (ip : IpAddr) (number : Asn) (f : T (fits
   front_inside = omega (arith, front_size, front_le)
 
   module _ (out : List ℕ) where
-    pub front_short : length out < n → (put.TooShort ≡ answer text out) × (out ≡ front text out)
+    pub front_short : length out < n → ((Err TooShort) ≡ answer text out) × (out ≡ front text out)
     front_short l = (too_short text out n front_size l, kept text out n front_size l)
 
-    pub front_put : n ≤ length out → (new : List ℕ) (a : ℕ) → Written (take n o) out 0 new a → (put.Wrote a ≡ answer text out) × (new ≡ front text out)
+    pub front_put : n ≤ length out → (new : List ℕ) (a : ℕ) → Written (take n o) out 0 new a → (Ok a ≡ answer text out) × (new ≡ front text out)
     front_put l new a v =
         let u : Written text out 0 new a = rw (← front_taken) v in
         (wrote text out n front_size new a l u, whole text out n front_size new a l u)
 
 -- the line behind its own front
 pub line_printed : (e : Element) → T (fits binary64 e.timestamp) → Fits w32 e.peer_asn.0 → (places o : List ℕ) (n : ℕ) → Written (peer_text e) places 0 o n → length places ≡ 90
-    → (psv s : Bool) (asns out : List ℕ) (r : ElementPut) (new : List ℕ) → Printed s (take n o ++ rest_text psv e asns) out r new → Printed s (line_text psv e asns) out r new
+    → (psv s : Bool) (asns out : List ℕ) (r : Result ℕ ElementError) (new : List ℕ) → Printed s (take n o ++ rest_text psv e asns) out r new → Printed s (line_text psv e asns) out r new
 line_printed e f g places o n w h psv s asns out r new p =
     rw (front_taken e.announce e.timestamp e.peer_ip e.peer_asn f g places o n w h) at p
 

@@ -1,8 +1,8 @@
 -- Laws of an element's line: measured, written, and its fields joined.
+use Rattle.std.specs.Prelude.{Option, Some, None, Ok, Err}
 use mathlib.Core.Path.{◌≡◌, refl, sym, ap, ◌∙◌}
 use mathlib.Core.List.{List, [], ◌∷◌, ◌++◌, append_assoc}
 use mathlib.Core.Bool.{Bool, true, false}
-use mathlib.Core.Option.{Option}
 use Prim.Native.Nat.{ℕ, ◌+◌, ◌-◌, ◌≤◌, ◌<◌}
 use native.Mathlib.Omega.{arith}
 use lib.ListN.{length, get_or, drop, length-append}
@@ -13,29 +13,21 @@ use Rattle.scan.specs.Ascii.{ascii}
 use Rattle.decimal_display.specs.Printed.{decimal}
 use Rattle.output.specs.Output.{Written, front, answer}
 use Rattle.output.proofs.Output.{then, nothing, kept, wrote, whole, too_short, room_all}
-use Rattle.output.specs.declared.Put.TheVariants as put
-use Rattle.decimal.specs.declared.U32Read.{U32Read}
-use Rattle.decimal.specs.declared.U32Read.TheVariants as read
+use Rattle.output.specs.declared.PutError.TheVariants.{TooShort}
 use Rattle.network.specs.declared.Asn.{Asn}
 use Rattle.network.specs.declared.IpAddr.{IpAddr}
 use Rattle.network.specs.declared.NetworkPrefix.{NetworkPrefix}
 use Rattle.network_display.specs.Text.{address_text, prefix_text}
-use Rattle.seconds.specs.Seconds.{second_of, as_second, timestamp_text}
-use Rattle.seconds.specs.declared.SecondRead.{SecondRead}
-use Rattle.seconds.specs.declared.SecondRead.TheVariants as second
+use Rattle.seconds.specs.Seconds.{second_of, timestamp_text}
 use Rattle.seconds.proofs.Callers.{second_some, second_none}
 use Rattle.aspath_display.specs.Display.{lead, separated, Measured}
 use Rattle.aspath_display.proofs.Text.{len_more, len_end}
 use Rattle.elem.specs.Element.{spoilt, numbers}
 use Rattle.elem.specs.declared.Element.{Element}
-use Rattle.elem.specs.declared.OptAsn.{OptAsn}
-use Rattle.elem.specs.declared.OptAsn.TheVariants as asn
 use Rattle.elem.specs.declared.Origin.{Origin}
 use Rattle.elem.specs.declared.Origin.TheVariants.{IGP, EGP, INCOMPLETE}
-use Rattle.elem.specs.declared.OptOrigin.{OptOrigin}
-use Rattle.elem.specs.declared.OptOrigin.TheVariants as origin
 use Rattle.elem.proofs.Spoilt.{count_within}
-use Rattle.psv.specs.declared.ElementPut.TheVariants.{Wrote, Spoilt, TooShort}
+use Rattle.psv.specs.declared.ElementError.TheVariants.{Spoilt, TooShort}
 use Rattle.psv.specs.Line.{header_text, bar, type_text, time_text, sequence_text, asn_text, origin_text, number_text, psv_text, display_text, start_text, front_text, between_text, hop_text, preference_text, attributes_text, tail_text, rest_text, line_text, Printed}
 
 -- the type
@@ -51,84 +43,84 @@ module _ (b : Bool) (out o : List ℕ) (at a : ℕ) where
   withdrawn e w = rw e w
 
 -- the timestamp
-module _ (m : Option ℕ) (r : SecondRead) (told : r ≡ as_second m) where
+module _ (m : Option ℕ) (r : Option ℕ) (told : r ≡ m) where
   module _ (out : List ℕ) (at : ℕ) where
-    pub time_written : (s : ℕ) (o : List ℕ) (a : ℕ) → r ≡ second.Second s → Written (timestamp_text s) out at o a → Written (time_text m) out at o a
+    pub time_written : (s : ℕ) (o : List ℕ) (a : ℕ) → r ≡ Some s → Written (timestamp_text s) out at o a → Written (time_text m) out at o a
     unfolding time_text
     time_written s o a e w = rw (second_some m r s told e) w
 
-    pub no_time_written : r ≡ second.Nothing → Written (time_text m) out at out at
+    pub no_time_written : r ≡ None → Written (time_text m) out at out at
     unfolding time_text
     no_time_written e = rw (second_none m r told e) (nothing out at)
 
 -- what may be missing
-module _ (x : OptAsn) where
-  pub asn_length : (a : Asn) (n : ℕ) → x ≡ asn.Known a → n ≡ length (decimal a.0) → n ≤ 20 → Measured (asn_text x) 20 n
+module _ (x : Option Asn) where
+  pub asn_length : (a : Asn) (n : ℕ) → x ≡ Some a → n ≡ length (decimal a.0) → n ≤ 20 → Measured (asn_text x) 20 n
   unfolding asn_text
   asn_length a n e h l = rw e (record { is = h; small = l })
 
-  pub no_asn_length : x ≡ asn.Nothing → Measured (asn_text x) 20 0
+  pub no_asn_length : x ≡ None → Measured (asn_text x) 20 0
   unfolding asn_text
   no_asn_length e = rw e (record { is = refl; small = omega arith })
 
   module _ (out : List ℕ) (at : ℕ) where
-    pub asn_written : (a : Asn) (o : List ℕ) (p : ℕ) → x ≡ asn.Known a → Written (decimal a.0) out at o p → Written (asn_text x) out at o p
+    pub asn_written : (a : Asn) (o : List ℕ) (p : ℕ) → x ≡ Some a → Written (decimal a.0) out at o p → Written (asn_text x) out at o p
     unfolding asn_text
     asn_written a o p e w = rw e w
 
-    pub no_asn_written : x ≡ asn.Nothing → Written (asn_text x) out at out at
+    pub no_asn_written : x ≡ None → Written (asn_text x) out at out at
     unfolding asn_text
     no_asn_written e = rw e (nothing out at)
 
-module _ (x : U32Read) where
-  pub number_length : (v n : ℕ) → x ≡ read.Number v → n ≡ length (decimal v) → n ≤ 20 → Measured (number_text x) 20 n
+module _ (x : Option ℕ) where
+  pub number_length : (v n : ℕ) → x ≡ Some v → n ≡ length (decimal v) → n ≤ 20 → Measured (number_text x) 20 n
   unfolding number_text
   number_length v n e h l = rw e (record { is = h; small = l })
 
-  pub no_number_length : x ≡ read.Nothing → Measured (number_text x) 20 0
+  pub no_number_length : x ≡ None → Measured (number_text x) 20 0
   unfolding number_text
   no_number_length e = rw e (record { is = refl; small = omega arith })
 
   module _ (out : List ℕ) (at : ℕ) where
-    pub number_written : (v : ℕ) (o : List ℕ) (p : ℕ) → x ≡ read.Number v → Written (decimal v) out at o p → Written (number_text x) out at o p
+    pub number_written : (v : ℕ) (o : List ℕ) (p : ℕ) → x ≡ Some v → Written (decimal v) out at o p → Written (number_text x) out at o p
     unfolding number_text
     number_written v o p e w = rw e w
 
-    pub no_number_written : x ≡ read.Nothing → Written (number_text x) out at out at
+    pub no_number_written : x ≡ None → Written (number_text x) out at out at
     unfolding number_text
     no_number_written e = rw e (nothing out at)
 
-module _ (x : OptOrigin) where
-  pub igp_length : (g : Origin) → x ≡ origin.Known g → g ≡ IGP → Measured (origin_text x) 10 3
+module _ (x : Option Origin) where
+  pub igp_length : (g : Origin) → x ≡ Some g → g ≡ IGP → Measured (origin_text x) 10 3
   unfolding origin_text
   igp_length g e f = rw (e, f) (record { is = refl; small = omega arith })
 
-  pub egp_length : (g : Origin) → x ≡ origin.Known g → g ≡ EGP → Measured (origin_text x) 10 3
+  pub egp_length : (g : Origin) → x ≡ Some g → g ≡ EGP → Measured (origin_text x) 10 3
   unfolding origin_text
   egp_length g e f = rw (e, f) (record { is = refl; small = omega arith })
 
-  pub incomplete_length : (g : Origin) → x ≡ origin.Known g → g ≡ INCOMPLETE → Measured (origin_text x) 10 10
+  pub incomplete_length : (g : Origin) → x ≡ Some g → g ≡ INCOMPLETE → Measured (origin_text x) 10 10
   unfolding origin_text
   incomplete_length g e f = rw (e, f) (record { is = refl; small = omega arith })
 
-  pub no_origin_length : x ≡ origin.Nothing → Measured (origin_text x) 10 0
+  pub no_origin_length : x ≡ None → Measured (origin_text x) 10 0
   unfolding origin_text
   no_origin_length e = rw e (record { is = refl; small = omega arith })
 
   module _ (out : List ℕ) (at : ℕ) where
-    pub igp_written : (g : Origin) (o : List ℕ) (p : ℕ) → x ≡ origin.Known g → g ≡ IGP → Written (ascii "IGP") out at o p → Written (origin_text x) out at o p
+    pub igp_written : (g : Origin) (o : List ℕ) (p : ℕ) → x ≡ Some g → g ≡ IGP → Written (ascii "IGP") out at o p → Written (origin_text x) out at o p
     unfolding origin_text
     igp_written g o p e f w = rw (e, f) w
 
-    pub egp_written : (g : Origin) (o : List ℕ) (p : ℕ) → x ≡ origin.Known g → g ≡ EGP → Written (ascii "EGP") out at o p → Written (origin_text x) out at o p
+    pub egp_written : (g : Origin) (o : List ℕ) (p : ℕ) → x ≡ Some g → g ≡ EGP → Written (ascii "EGP") out at o p → Written (origin_text x) out at o p
     unfolding origin_text
     egp_written g o p e f w = rw (e, f) w
 
-    pub incomplete_written : (g : Origin) (o : List ℕ) (p : ℕ) → x ≡ origin.Known g → g ≡ INCOMPLETE → Written (ascii "INCOMPLETE") out at o p → Written (origin_text x) out at o p
+    pub incomplete_written : (g : Origin) (o : List ℕ) (p : ℕ) → x ≡ Some g → g ≡ INCOMPLETE → Written (ascii "INCOMPLETE") out at o p → Written (origin_text x) out at o p
     unfolding origin_text
     incomplete_written g o p e f w = rw (e, f) w
 
-    pub no_origin_written : x ≡ origin.Nothing → Written (origin_text x) out at out at
+    pub no_origin_written : x ≡ None → Written (origin_text x) out at out at
     unfolding origin_text
     no_origin_written e = rw e (nothing out at)
 
@@ -254,18 +246,18 @@ unfolding header_text separated
 header_length = refl
 
 module _ (out : List ℕ) where
-  pub header_short : length out < 142 → (put.TooShort ≡ answer header_text out) × (out ≡ front header_text out)
+  pub header_short : length out < 142 → ((Err TooShort) ≡ answer header_text out) × (out ≡ front header_text out)
   header_short h = (too_short header_text out 142 header_length h, kept header_text out 142 header_length h)
 
   pub header_written : (new : List ℕ) (a : ℕ) → 142 ≤ length out
       → Written (ascii "type|timestamp|peer_ip|peer_asn|prefix|as_path|origin_asns|origin|next_hop|local_pref|med|communities|atomic|aggr_asn|aggr_ip|only_to_customer") out 0 new a
-      → (put.Wrote a ≡ answer header_text out) × (new ≡ front header_text out)
+      → (Ok a ≡ answer header_text out) × (new ≡ front header_text out)
   header_written new a h w =
       let v : Written header_text out 0 new a = rw header_is w in
       (wrote header_text out 142 header_length new a h v, whole header_text out 142 header_length new a h v)
 
 -- the call
-pub put_spoilt : (s r : Bool) (t out : List ℕ) → r ≡ s → r ≡ true → Printed s t out Spoilt out
+pub put_spoilt : (s r : Bool) (t out : List ℕ) → r ≡ s → r ≡ true → Printed s t out (Err Spoilt) out
 put_spoilt s r t out e f = let z : s ≡ true = sym e ∙ f in record { told = rw z; left = rw z }
 
 pub slice_within : (e : Element) (asns : List ℕ) (r : Bool) → r ≡ spoilt e asns → r ≡ false → e.count ≤ length asns
@@ -280,14 +272,14 @@ module _ (psv : Bool) (begin : List ℕ) (e : Element) (asns out : List ℕ) (r 
   unfolding rest_text
   fits_text = rw length-append fits
 
-  pub put_short : b ≡ false → Printed (spoilt e asns) text out TooShort out
+  pub put_short : b ≡ false → Printed (spoilt e asns) text out (Err TooShort) out
   put_short f =
       let z : spoilt e asns ≡ false = sym told ∙ sound in
       let n : leb (length text) (length out) ≡ false = sym fits_text ∙ f in
       record { told = rw z (simp n); left = rw z (kept text out (length text) refl (leb-false (length text) (length out) n)) }
 
   pub put_written : b ≡ true → (o₁ o₂ o₃ o : List ℕ) (a c d g : ℕ) → Written begin out 0 o₁ a → Written (between_text e.prefix) o₁ a o₂ c
-      → Written (sequence_text (numbers e asns)) o₂ c o₃ d → Written (tail_text psv e) o₃ d o g → Printed (spoilt e asns) text out (Wrote g) o
+      → Written (sequence_text (numbers e asns)) o₂ c o₃ d → Written (tail_text psv e) o₃ d o g → Printed (spoilt e asns) text out (Ok g) o
   unfolding rest_text
   put_written f o₁ o₂ o₃ o a c d g w₁ w₂ w₃ w₄ =
       let z : spoilt e asns ≡ false = sym told ∙ sound in
@@ -295,7 +287,7 @@ module _ (psv : Bool) (begin : List ℕ) (e : Element) (asns out : List ℕ) (r 
       let l : length text ≤ length out = leb-true (length text) (length out) n in
       let w : Written text out 0 o g = then w₁ (then (then w₂ w₃) w₄) in
       let p : g ≡ length text = omega (arith, w.place, room_all out 0 text (omega arith)) in
-      record { told = rw z (simp n (ap Wrote p)); left = rw z (whole text out (length text) refl o g l w) }
+      record { told = rw z (simp n (ap Ok p)); left = rw z (whole text out (length text) refl o g l w) }
 
 -- the fields joined are the parts one after another
 to_the_right : (x a b c d f p q g h i j z : List ℕ)

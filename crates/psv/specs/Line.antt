@@ -1,11 +1,8 @@
 -- The lines that print an element (models/bgp/elem.rs): texts with '|' between them; what is missing prints nothing.
-use Rattle.std.specs.Prelude.{ℕ, ◌≡◌, Bool, true, cond, List, [], ◌∷◌, ◌++◌, length, leb, Float}
-use Rattle.std.proofs.Math.Option.{Option, some, none}
+use Rattle.std.specs.Prelude.{ℕ, ◌≡◌, Bool, true, cond, List, [], ◌∷◌, ◌++◌, length, leb, Float, Option, Some, None, Result, Ok, Err}
 use Rattle.scan.specs.Ascii.{ascii}
 use Rattle.decimal_display.specs.Printed.{decimal}
 use Rattle.output.specs.Output.{front}
-use Rattle.decimal.specs.declared.U32Read.{U32Read}
-use Rattle.decimal.specs.declared.U32Read.TheVariants as read
 use Rattle.network.specs.declared.Asn.{Asn}
 use Rattle.network.specs.declared.IpAddr.{IpAddr}
 use Rattle.network.specs.declared.NetworkPrefix.{NetworkPrefix}
@@ -14,13 +11,10 @@ use Rattle.seconds.specs.Seconds.{second_of, timestamp_text}
 use Rattle.aspath_display.specs.Display.{separated}
 use Rattle.elem.specs.Element.{numbers}
 use Rattle.elem.specs.declared.Element.{Element}
-use Rattle.elem.specs.declared.OptAsn.{OptAsn}
-use Rattle.elem.specs.declared.OptAsn.TheVariants as asn
 use Rattle.elem.specs.declared.Origin.TheVariants.{IGP, EGP, INCOMPLETE}
-use Rattle.elem.specs.declared.OptOrigin.{OptOrigin}
-use Rattle.elem.specs.declared.OptOrigin.TheVariants as origin
-use Rattle.psv.specs.declared.ElementPut.{ElementPut}
-use Rattle.psv.specs.declared.ElementPut.TheVariants.{Wrote, Spoilt, TooShort}
+use Rattle.elem.specs.declared.Origin.{Origin}
+use Rattle.psv.specs.declared.ElementError.{ElementError}
+use Rattle.psv.specs.declared.ElementError.TheVariants.{Spoilt, TooShort}
 
 -- texts with '|' between them
 abbrev pub joined : List (List ℕ) → List ℕ
@@ -37,27 +31,27 @@ type_text announce = cond announce (ascii "A") (ascii "W")
 
 -- only a spoilt element has no second
 unfoldable pub time_text : Option ℕ → List ℕ
-time_text (some second) = timestamp_text second
-time_text none = []
+time_text (Some second) = timestamp_text second
+time_text None = []
 
 -- the path is one sequence (Display of AsPath)
 abbrev pub sequence_text : List ℕ → List ℕ
 sequence_text ns = separated 32 decimal true ns
 
-unfoldable pub asn_text : OptAsn → List ℕ
-asn_text (asn.Known a) = decimal a.0
-asn_text asn.Nothing = []
+unfoldable pub asn_text : Option Asn → List ℕ
+asn_text (Some a) = decimal a.0
+asn_text None = []
 
 -- Display of Origin (origin.rs)
-unfoldable pub origin_text : OptOrigin → List ℕ
-origin_text (origin.Known IGP) = ascii "IGP"
-origin_text (origin.Known EGP) = ascii "EGP"
-origin_text (origin.Known INCOMPLETE) = ascii "INCOMPLETE"
-origin_text origin.Nothing = []
+unfoldable pub origin_text : Option Origin → List ℕ
+origin_text (Some IGP) = ascii "IGP"
+origin_text (Some EGP) = ascii "EGP"
+origin_text (Some INCOMPLETE) = ascii "INCOMPLETE"
+origin_text None = []
 
-unfoldable pub number_text : U32Read → List ℕ
-number_text (read.Number n) = decimal n
-number_text read.Nothing = []
+unfoldable pub number_text : Option ℕ → List ℕ
+number_text (Some n) = decimal n
+number_text None = []
 
 -- to_psv, in the header's order; an element here has no communities, aggregator or only_to_customer, and is not atomic
 unfoldable pub psv_text : Element → List ℕ → List ℕ
@@ -114,12 +108,12 @@ unfoldable pub texts_line : List ℕ → List ℕ → List ℕ → Element → L
 texts_line begin path asn e = begin ++ path ++ bar ++ asn ++ attributes_text e ++ bar
 
 -- what a call that prints a text of the element answers and leaves: 01's order, 8, then 9 with the output as it was
-pub record Printed (spoilt : Bool) (text out : List ℕ) (r : ElementPut) (new : List ℕ) : Type 0 where
-  pub told : r ≡ cond spoilt Spoilt (cond (leb (length text) (length out)) (Wrote (length text)) TooShort)
+pub record Printed (spoilt : Bool) (text out : List ℕ) (r : Result ℕ ElementError) (new : List ℕ) : Type 0 where
+  pub told : r ≡ cond spoilt (Err Spoilt) (cond (leb (length text) (length out)) (Ok (length text)) (Err TooShort))
   pub left : new ≡ cond spoilt out (front text out)
 
 -- 01's numbers of the refusals; 0 is an answer
-abbrev pub number : ElementPut → ℕ
-number (Wrote n) = 0
-number Spoilt = 8
-number TooShort = 9
+abbrev pub number : Result ℕ ElementError → ℕ
+number (Ok n) = 0
+number (Err Spoilt) = 8
+number (Err TooShort) = 9

@@ -8,15 +8,12 @@ ghost use Rattle.aspath_display.specs.Display.{Measured};
 ghost use Rattle.elem.specs.Element.{spoilt};
 ghost use Rattle.psv.specs.Line.{header_text, type_text, time_text, sequence_text, asn_text, origin_text, number_text, psv_text, display_text, start_text, front_text, between_text, hop_text, preference_text, attributes_text, tail_text, rest_text, line_text, texts_line, Printed};
 
-use decimal::U32Read;
-use elem::{Element, OptAsn, OptOrigin, Origin};
+use elem::{Element, Origin};
 use network::{Asn, IpAddr, NetworkPrefix};
-use output::Put;
-use seconds::SecondRead;
+use output::PutError;
 
-#[derive(Clone, Copy)]
-pub enum ElementPut {
-    Wrote(usize),
+#[derive(Debug, Clone, Copy, PartialEq, Eq)]
+pub enum ElementError {
     Spoilt,
     TooShort,
 }
@@ -37,8 +34,8 @@ fn write_time(t: f64, out: &mut [u8], at: usize) -> usize
     ensures { Written (time_text (second_of t)) out.old at out.new result }
 {
     match seconds::second_of(t) {
-        SecondRead::Second(second) => seconds::write_timestamp(second, out, at),
-        SecondRead::Nothing => at,
+        Some(second) => seconds::write_timestamp(second, out, at),
+        None => at,
     }
 }
 
@@ -99,46 +96,46 @@ fn has_room(numbers: &[u32], room: usize) -> bool
 
 // The fields behind the path.
 
-fn asn_len(a: OptAsn) -> usize
+fn asn_len(a: Option<Asn>) -> usize
     ensures { Measured (asn_text a) 20 result }
 {
     match a {
-        OptAsn::Known(asn) => decimal_display::decimal_len(asn.0 as u64),
-        OptAsn::Nothing => 0,
+        Some(asn) => decimal_display::decimal_len(asn.0 as u64),
+        None => 0,
     }
 }
 
-fn write_asn(a: OptAsn, out: &mut [u8], at: usize) -> usize
+fn write_asn(a: Option<Asn>, out: &mut [u8], at: usize) -> usize
     ensures { Written (asn_text a) out.old at out.new result }
 {
     match a {
-        OptAsn::Known(asn) => decimal_display::write_u32(asn.0, out, at),
-        OptAsn::Nothing => at,
+        Some(asn) => decimal_display::write_u32(asn.0, out, at),
+        None => at,
     }
 }
 
-fn u32_len(n: U32Read) -> usize
+fn u32_len(n: Option<u32>) -> usize
     ensures { Measured (number_text n) 20 result }
 {
     match n {
-        U32Read::Number(v) => decimal_display::decimal_len(v as u64),
-        U32Read::Nothing => 0,
+        Some(v) => decimal_display::decimal_len(v as u64),
+        None => 0,
     }
 }
 
-fn write_u32(n: U32Read, out: &mut [u8], at: usize) -> usize
+fn write_u32(n: Option<u32>, out: &mut [u8], at: usize) -> usize
     ensures { Written (number_text n) out.old at out.new result }
 {
     match n {
-        U32Read::Number(v) => decimal_display::write_u32(v, out, at),
-        U32Read::Nothing => at,
+        Some(v) => decimal_display::write_u32(v, out, at),
+        None => at,
     }
 }
 
-fn origin_len(o: OptOrigin) -> usize
+fn origin_len(o: Option<Origin>) -> usize
     ensures { Measured (origin_text o) 10 result }
 {
-    let OptOrigin::Known(origin) = o else {
+    let Some(origin) = o else {
         return 0;
     };
     match origin {
@@ -148,10 +145,10 @@ fn origin_len(o: OptOrigin) -> usize
     }
 }
 
-fn write_origin(o: OptOrigin, out: &mut [u8], at: usize) -> usize
+fn write_origin(o: Option<Origin>, out: &mut [u8], at: usize) -> usize
     ensures { Written (origin_text o) out.old at out.new result }
 {
-    let OptOrigin::Known(origin) = o else {
+    let Some(origin) = o else {
         return at;
     };
     match origin {
@@ -264,11 +261,17 @@ fn line_fits(psv: bool, front_len: usize, e: Element, numbers: &[u32], room: usi
 }
 
 // The line behind any front.
-fn put_behind(psv: bool, front: &[u8], e: Element, asns: &[u32], out: &mut [u8]) -> ElementPut
+fn put_behind(
+    psv: bool,
+    front: &[u8],
+    e: Element,
+    asns: &[u32],
+    out: &mut [u8],
+) -> Result<usize, ElementError>
     ensures { Printed (spoilt e asns.now) (front.now ++ rest_text psv e asns.now) out.old result out.new }
 {
     if elem::is_spoilt_element(e, asns) {
-        return ElementPut::Spoilt;
+        return Err(ElementError::Spoilt);
     }
     let count = e.count;
     let numbers = &asns[..count];
@@ -277,13 +280,13 @@ fn put_behind(psv: bool, front: &[u8], e: Element, asns: &[u32], out: &mut [u8])
         let a = output::write_bytes(front, out, 0);
         let b = write_between(prefix, out, a);
         let c = aspath_display::write_numbers(numbers, b' ', out, b);
-        return ElementPut::Wrote(write_tail(psv, e, out, c));
+        return Ok(write_tail(psv, e, out, c));
     }
-    ElementPut::TooShort
+    Err(ElementError::TooShort)
 }
 
 // The line behind its own front, which has at most 90 bytes.
-fn put_line(psv: bool, e: Element, asns: &[u32], out: &mut [u8]) -> ElementPut
+fn put_line(psv: bool, e: Element, asns: &[u32], out: &mut [u8]) -> Result<usize, ElementError>
     ensures { Printed (spoilt e asns.now) (line_text psv e asns.now) out.old result out.new }
 {
     let announce = e.announce;
@@ -295,7 +298,7 @@ fn put_line(psv: bool, e: Element, asns: &[u32], out: &mut [u8]) -> ElementPut
     put_behind(psv, &front[..n], e, asns, out)
 }
 
-pub fn to_psv(e: Element, asns: &[u32], out: &mut [u8]) -> ElementPut
+pub fn to_psv(e: Element, asns: &[u32], out: &mut [u8]) -> Result<usize, ElementError>
     ensures { Printed (spoilt e asns.now) (psv_text e asns.now) out.old result out.new }
 {
     put_line(true, e, asns, out)
@@ -308,15 +311,15 @@ pub fn put_front(
     peer_ip: IpAddr,
     peer_asn: Asn,
     out: &mut [u8],
-) -> Put
+) -> Result<usize, PutError>
     ensures { (result ≡ answer (front_text announce timestamp peer_ip peer_asn) out.old) × (out.new ≡ front (front_text announce timestamp peer_ip peer_asn) out.old) }
 {
     let mut text = [0u8; 90];
     let n = write_front(announce, timestamp, peer_ip, peer_asn, &mut text, 0);
     if out.len() < n {
-        return Put::TooShort;
+        return Err(PutError::TooShort);
     }
-    Put::Wrote(output::write_bytes(&text[..n], out, 0))
+    Ok(output::write_bytes(&text[..n], out, 0))
 }
 
 // The line of texts that are at hand.
@@ -361,30 +364,36 @@ fn write_texts(begin: &[u8], path: &[u8], origin_asn: &[u8], e: Element, out: &m
 
 // to_psv's line of texts that are not looked at: what stands before the path, the path and the origin AS. Of the element only its origin, next hop,
 // preference and metric are printed.
-pub fn put_texts(begin: &[u8], path: &[u8], origin_asn: &[u8], e: Element, out: &mut [u8]) -> Put
+pub fn put_texts(
+    begin: &[u8],
+    path: &[u8],
+    origin_asn: &[u8],
+    e: Element,
+    out: &mut [u8],
+) -> Result<usize, PutError>
     ensures { (result ≡ answer (texts_line begin.now path.now origin_asn.now e) out.old) × (out.new ≡ front (texts_line begin.now path.now origin_asn.now e) out.old) }
 {
     if texts_fit(begin.len(), path.len(), origin_asn.len(), e, out.len()) {
-        return Put::Wrote(write_texts(begin, path, origin_asn, e, out));
+        return Ok(write_texts(begin, path, origin_asn, e, out));
     }
-    Put::TooShort
+    Err(PutError::TooShort)
 }
 
 // Display of the element.
-pub fn display_element(e: Element, asns: &[u32], out: &mut [u8]) -> ElementPut
+pub fn display_element(e: Element, asns: &[u32], out: &mut [u8]) -> Result<usize, ElementError>
     ensures { Printed (spoilt e asns.now) (display_text e asns.now) out.old result out.new }
 {
     put_line(false, e, asns, out)
 }
 
-pub fn get_psv_header(out: &mut [u8]) -> Put
+pub fn get_psv_header(out: &mut [u8]) -> Result<usize, PutError>
     ensures { (result ≡ answer header_text out.old) × (out.new ≡ front header_text out.old) }
 {
     let short = out.len() < 142;
     if short {
-        return Put::TooShort;
+        return Err(PutError::TooShort);
     }
-    Put::Wrote(output::write_bytes(
+    Ok(output::write_bytes(
         b"type|timestamp|peer_ip|peer_asn|prefix|as_path|origin_asns|origin|next_hop|local_pref|med|communities|atomic|aggr_asn|aggr_ip|only_to_customer",
         out,
         0,

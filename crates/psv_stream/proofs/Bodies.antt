@@ -1,4 +1,5 @@
 -- The loop over the body's lines: what each line does, and what the loop comes to.
+use Rattle.std.specs.Prelude.{Result, Ok, Err}
 use Rattle.std.proofs.Common.{◌≡◌, ℕ, ◌+◌, ◌-◌, ◌<◌, ◌≤◌, Bool, true, false, cond, leb, List, [], ◌∷◌, ◌++◌, length, take, drop, sym, refl, ap, ◌∙◌, subst, inl, arith, length-take, leb-false, leb-true}
 use mathlib.Core.Bool.{false≢true}
 use Rattle.scan.specs.Lines.{lines}
@@ -31,8 +32,8 @@ use Rattle.psv_stream.specs.Parts.{Puts, acts, Steps, Came, element_for, routed,
 use Rattle.psv_stream.specs.declared.Phase.{Phase}
 use Rattle.psv_stream.specs.declared.Phase.TheVariants.{Body, Stopped}
 use Rattle.psv_stream.specs.declared.Ran.{Ran}
-use Rattle.psv_stream.specs.declared.RoutePut.{RoutePut}
-use Rattle.psv_stream.specs.declared.RoutePut.TheVariants as route
+use Rattle.psv_stream.specs.Refusal.{number as number_of}
+use Rattle.psv_stream.specs.declared.Refusal.{Refusal}
 use Rattle.psv_stream.specs.declared.Place.{Place}
 use Rattle.psv_stream.specs.declared.BodyStep.{BodyStep}
 use Rattle.psv_stream.specs.declared.BodyStep.TheVariants as step
@@ -140,16 +141,16 @@ module _ (σ : State) (b : Place) (start : List ℕ) (n : ℕ) (kept : Kept σ s
       acts_so : acts (phase_of σ b) l ≡ routed σ p e (asns_of (path_of e l)) number behind
       acts_so = rw (← counted) is_routed
 
-      module _ (out new : List ℕ) (r : RoutePut) (put : PutRoute σ p e (asns_of (path_of e l)) out new r) where
-        pub route_wrote : (w k : ℕ) → r ≡ route.Wrote w → BodyDoes σ b l out new (step.Took (length l) w (there (length l) q k))
+      module _ (out new : List ℕ) (r : Result ℕ Refusal) (put : PutRoute σ p e (asns_of (path_of e l)) out new r) where
+        pub route_wrote : (w k : ℕ) → r ≡ Ok w → BodyDoes σ b l out new (step.Took (length l) w (there (length l) q k))
         route_wrote w k f s =
-            let h : PutRoute σ p e (asns_of (path_of e l)) out new (route.Wrote w) = rw f at put in
+            let h : PutRoute σ p e (asns_of (path_of e l)) out new (Ok w) = rw f at put in
             rw (acts_so, h.0 number behind) (h.1, rw v, omega arith)
 
-        pub route_refused : (z : ℕ) → r ≡ route.Refused z → (newer : List ℕ) (w : ℕ) → Puts (refusal_text z number) new newer w → BodyDoes σ b l out newer (step.Stops w)
+        pub route_refused : (z : Refusal) → r ≡ Err z → (newer : List ℕ) (w : ℕ) → Puts (refusal_text (number_of z) number) new newer w → BodyDoes σ b l out newer (step.Stops w)
         route_refused z f newer w d s =
-            let h : PutRoute σ p e (asns_of (path_of e l)) out new (route.Refused z) = rw f at put in
-            refused_does s (length l) out (acts (phase_of σ b) l) z number (acts_so ∙ h.0 number behind) newer w (rw h.1 at d)
+            let h : PutRoute σ p e (asns_of (path_of e l)) out new (Err z) = rw f at put in
+            refused_does s (length l) out (acts (phase_of σ b) l) (number_of z) number (acts_so ∙ h.0 number behind) newer w (rw h.1 at d)
 
       -- behind what its line begins with
       module _ (k : ℕ) (short : k ≡ kept_len x b.start_len) (start' : List ℕ) (k' : ℕ) (printed : (f : List ℕ) → Begins f start n (remembered.Valid p) k → Begins f start' n (remembered.Valid p) k') where

@@ -1,8 +1,9 @@
 -- Laws of a route's line that is put together from texts: a plain path's text is copied.
+use Rattle.std.specs.Prelude.{Result, Ok, Err, Option, Some}
 use Rattle.std.proofs.Common.{◌≡◌, ℕ, ◌+◌, ◌-◌, ◌*◌, ◌/◌, ◌%◌, ◌^◌, ◌<◌, ◌≤◌, false, eqb, List, [], ◌∷◌, ◌++◌, map, length, get_or, take, drop, sym, refl, ap, ◌∙◌, subst, append_assoc, append-nil, add-one, arith, take-suc, take-add, ne_eqb, leb-true}
 use Rattle.output.specs.Output.{Written, front, answer}
-use Rattle.output.specs.declared.Put.{Put}
-use Rattle.output.specs.declared.Put.TheVariants as written
+use Rattle.output.specs.declared.PutError.{PutError}
+use Rattle.output.specs.declared.PutError.TheVariants.{TooShort}
 use Rattle.word.specs.Word.{number, little_endian}
 use Rattle.word.proofs.Laws.{Bytes}
 use Rattle.decimal.specs.Decimal.{leading, first_digits}
@@ -18,8 +19,6 @@ use Rattle.psv.specs.Line.{sequence_text, asn_text, texts_line}
 use Rattle.text_dump.specs.Rules.{origin_asn}
 use Rattle.psv_stream.specs.Printed.{feed}
 use Rattle.psv_stream.specs.Parts.{Spells, IsPlain, copied_text, Copies}
-use Rattle.psv_stream.specs.declared.PlainPath.{PlainPath}
-use Rattle.psv_stream.specs.declared.PlainPath.TheVariants as plain
 use Rattle.psv_stream.proofs.Texts.{Told, told_by, part_put, whole_again}
 
 -- the origin AS is the last of the numbers
@@ -94,7 +93,7 @@ module _ (path : List ℕ) (at last w n : ℕ) (bytes : Bytes path) (c : Copied 
         printed = digits_printed (first_digits w).value (take n (drop at path)) (counted_digits path at w n bytes q f few space some) (λ e. no_zero (sym first ∙ e))
 
 -- what is told of a path that is plain
-module _ (path : List ℕ) (p : PlainPath) (told : IsPlain path p) (last end : ℕ) (f : p ≡ plain.Text last end) where
+module _ (path : List ℕ) (p : Option (ℕ × ℕ)) (told : IsPlain path p) (last end : ℕ) (f : p ≡ Some (last, end)) where
   pub spelled : Spells path last end
   spelled = subst (IsPlain path) f told
 
@@ -105,18 +104,18 @@ module _ (path : List ℕ) (p : PlainPath) (told : IsPlain path p) (last end : �
   spelled_inside = spelled.inside
 
 -- the line
-module _ (begin path : List ℕ) (e : Element) (out part : List ℕ) (last end : ℕ) (r : Put) (room : 65537 ≤ length out) (s : Spells path last end) (told : (r ≡ answer (texts_line begin (take end path) (take (end - last) (drop last path)) e) (take 65536 out)) × (part ≡ front (texts_line begin (take end path) (take (end - last) (drop last path)) e) (take 65536 out))) where
+module _ (begin path : List ℕ) (e : Element) (out part : List ℕ) (last end : ℕ) (r : Result ℕ PutError) (room : 65537 ≤ length out) (s : Spells path last end) (told : (r ≡ answer (texts_line begin (take end path) (take (end - last) (drop last path)) e) (take 65536 out)) × (part ≡ front (texts_line begin (take end path) (take (end - last) (drop last path)) e) (take 65536 out))) where
   abbrev text : List ℕ
   text = copied_text begin path e
 
-  known : (q : Put) → r ≡ q → Told text (take 65536 out) part q
+  known : (q : Result ℕ PutError) → r ≡ q → Told text (take 65536 out) part q
   known q f = subst (Told text (take 65536 out) part) f (told_by text (take 65536 out) part r (rw (s.text, s.asn) at told))
 
-  pub copied_put : length path ≤ 16384 → (n : ℕ) → r ≡ written.Wrote n → (new : List ℕ) (w : ℕ) → Written feed (part ++ drop 65536 out) n new w
-      → Copies begin path e out new (written.Wrote w)
+  pub copied_put : length path ≤ 16384 → (n : ℕ) → r ≡ Ok n → (new : List ℕ) (w : ℕ) → Written feed (part ++ drop 65536 out) n new w
+      → Copies begin path e out new (Ok w)
   copied_put few n f new w v =
-      let y = part_put out part room text n (known (written.Wrote n) f) new w v in
+      let y = part_put out part room text n (known (Ok n) f) new w v in
       (leb-true (length (asns_of path)) 16384 (sym (many_places path 16384 few)), y.0, y.1)
 
-  pub copied_short : r ≡ written.TooShort → Copies begin path e out (part ++ drop 65536 out) written.TooShort
-  copied_short f = whole_again out part room (known written.TooShort f).1
+  pub copied_short : (z : PutError) → r ≡ Err z → Copies begin path e out (part ++ drop 65536 out) (Err TooShort)
+  copied_short TooShort f = whole_again out part room (known (Err TooShort) f).1

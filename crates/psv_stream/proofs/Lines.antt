@@ -1,16 +1,17 @@
 -- What a line does that the loop over the head takes, and is not too long: the path line, a header line, a line under a spoilt state.
+use Rattle.std.specs.Prelude.{Option, Some, None, Result, Ok, Err, unwrap_or}
 use Rattle.std.proofs.Common.{◌≡◌, ℕ, ◌<◌, ◌≤◌, Bool, true, false, List, ◌++◌, length, take, pos, refl, ap, ◌∙◌, arith, le-ltb, lt-ltb}
 use lib.Ieee.{Float, fin, binary64, of_bits}
 use Rattle.timestamp.specs.Dates.{infer_timestamp}
-use Rattle.timestamp.specs.declared.Inferred.{Inferred}
-use Rattle.timestamp.specs.declared.Inferred.TheVariants as inferred
+use Rattle.timestamp.specs.declared.InferError.{InferError}
+use Rattle.timestamp.specs.declared.InferError.TheVariants.{NotUtf8}
 use Rattle.psv.specs.Line.{header_text}
 use Rattle.text_dump.specs.State.{turned, spoilt}
 use Rattle.text_dump.specs.Open.{open_of}
 use Rattle.text_dump.specs.Open.{told as toldOpened}
 use Rattle.text_dump.specs.declared.State.{State}
-use Rattle.text_dump.specs.declared.Opened.{Opened}
-use Rattle.text_dump.specs.declared.Opened.TheVariants as opening
+use Rattle.text_dump.specs.declared.OpenError.{OpenError}
+use Rattle.text_dump.specs.declared.OpenError.TheVariants.{NoColumns, NoTimestamp, Unreadable}
 use Rattle.psv_stream.specs.Printed.{path, header, feed, refusal_text, refuse, dated, scanned, after}
 use Rattle.psv_stream.specs.Printed as P
 use Rattle.psv_stream.specs.Parts.{Puts, Ends, TooLong, Does, acts, is_head}
@@ -31,35 +32,33 @@ module _ (s : List ℕ) (e : ℕ) (out : List ℕ) where
   refused_does z number line f new w h = rw f (h, refl)
 
   -- the path line
-  module _ (l : List ℕ) (i : Inferred) (known : i ≡ infer_timestamp l) where
-    pub path_dated : (t : Float) → i ≡ inferred.Timestamp t → Does (dated (infer_timestamp l)) s e out out (step.Took e 0 (Header t 0 0))
-    path_dated t f = rw (← known, f) (puts_none out, refl, omega arith)
+  module _ (l : List ℕ) (i : Result (Option Float) InferError) (known : i ≡ infer_timestamp l) where
+    pub path_read : (d : Option Float) → i ≡ Ok d → (t : Float) → t ≡ unwrap_or d (of_bits binary64 0) → Does (dated (infer_timestamp l)) s e out out (step.Took e 0 (Header t 0 0))
+    path_read (Some t) f u g = rw (← known, f, g) (puts_none out, refl, omega arith)
+    path_read None f u g = rw (← known, f, g) (puts_none out, rw zero, omega arith)
 
-    pub path_undated : i ≡ inferred.Nothing → Does (dated (infer_timestamp l)) s e out out (step.Took e 0 (Header (of_bits binary64 0) 0 0))
-    path_undated f = rw (← known, f) (puts_none out, rw zero, omega arith)
-
-    pub path_unreadable : i ≡ inferred.NotUtf8 → (new : List ℕ) (w : ℕ) → Puts (refusal_text 3 0) out new w → Does (dated (infer_timestamp l)) s e out new (step.Stops w)
+    pub path_unreadable : i ≡ (Err NotUtf8) → (new : List ℕ) (w : ℕ) → Puts (refusal_text 3 0) out new w → Does (dated (infer_timestamp l)) s e out new (step.Stops w)
     path_unreadable f new w = refused_does (dated (infer_timestamp l)) 3 0 (rw (← known, f)) new w
 
   -- a header line
-  module _ (t : Float) (n : ℕ) (o : Opened) (known : toldOpened o ≡ open_of t (take e s)) where
+  module _ (t : Float) (n : ℕ) (o : Result State OpenError) (known : toldOpened o ≡ open_of t (take e s)) where
     abbrev scan : P.Step
     scan = scanned t n (take e s) (open_of t (take e s))
 
-    pub opens : (σ : State) → o ≡ opening.Table σ → (new : List ℕ) (w : ℕ) → Puts (header_text ++ feed) out new w → Does scan s e out new (step.Took e w (Body σ n))
+    pub opens : (σ : State) → o ≡ Ok σ → (new : List ℕ) (w : ℕ) → Puts (header_text ++ feed) out new w → Does scan s e out new (step.Took e w (Body σ n))
     opens σ f new w p = rw (← known, f) (p, refl, omega arith)
 
-    pub no_columns_yet : o ≡ opening.NoColumns → n < 64 → Does scan s e out out (step.Took 0 0 (Header t n e))
+    pub no_columns_yet : o ≡ (Err NoColumns) → n < 64 → Does scan s e out out (step.Took 0 0 (Header t n e))
     no_columns_yet f h = rw (← known, f) (rw (lt-ltb n 64 h) (puts_none out, refl, omega arith))
 
     module _ (new : List ℕ) (w : ℕ) where
-      pub no_columns : o ≡ opening.NoColumns → 64 ≤ n → Puts (refusal_text 2 0) out new w → Does scan s e out new (step.Stops w)
+      pub no_columns : o ≡ (Err NoColumns) → 64 ≤ n → Puts (refusal_text 2 0) out new w → Does scan s e out new (step.Stops w)
       no_columns f h = refused_does scan 2 0 (rw (← known, f) (rw (le-ltb n 64 h))) new w
 
-      pub unreadable_line_lem : (line : ℕ) → o ≡ opening.Unreadable line → Puts (refusal_text 1 line) out new w → Does scan s e out new (step.Stops w)
+      pub unreadable_line_lem : (line : ℕ) → o ≡ Err (Unreadable line) → Puts (refusal_text 1 line) out new w → Does scan s e out new (step.Stops w)
       unreadable_line_lem line f = refused_does scan 1 line (rw (← known, f)) new w
 
-      pub no_timestamp : o ≡ opening.NoTimestamp → Puts (refusal_text 4 0) out new w → Does scan s e out new (step.Stops w)
+      pub no_timestamp : o ≡ (Err NoTimestamp) → Puts (refusal_text 4 0) out new w → Does scan s e out new (step.Stops w)
       no_timestamp f = refused_does scan 4 0 (rw (← known, f)) new w
 
 -- by phase

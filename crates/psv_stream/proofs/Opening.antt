@@ -1,13 +1,12 @@
 -- The lines of a header that opening accepts: at each but the last there is no column header yet.
+use Rattle.std.specs.Prelude.{Option, Some, None}
 use Rattle.std.proofs.Common.{◌≡◌, ℕ, zero, suc, ◌+◌, ◌^◌, ◌<◌, ◌≤◌, Bool, true, false, cond, leb, List, [], ◌∷◌, ◌++◌, length, take, drop, sym, refl, ap, ◌∙◌, append_assoc, append-nil, mod-eq_of_lt, arith, length-append, length-drop, le-ltb, lt-ltb, leb-false, leb-true}
 use mathlib.Core.List.{flatten, head_d, nil≢cons, tail-eq_of_cons-eq}
-use mathlib.Core.Option.{Option, some, none}
 use lib.Ieee.{Float}
 use Rattle.scan.specs.Lines.{lines, line_end}
 use Rattle.scan.proofs.LineLaws.{flatten_lines, line_at, line_end_inside, line_end_after, no_lines}
 use Rattle.utf8.specs.Utf8.{readable}
-use Rattle.columns.specs.declared.ColumnsRead.{ColumnsRead}
-use Rattle.columns.specs.declared.ColumnsRead.TheVariants.{Found, Nothing as NoColumns}
+use Rattle.columns.specs.declared.Columns.{Columns}
 use Rattle.seconds.specs.Seconds.{is_timestamp}
 use Rattle.psv.specs.Line.{header_text}
 use Rattle.plain_reader.specs.Lists.{Each}
@@ -68,15 +67,15 @@ singles (suc n) s h = go (lines s) refl (singles n)
         (w.4, rw w.1 (ih (drop (length l) s) (rw length-drop (omega (arith, w.2)))))
 
 -- the scan met all lines
-abbrev Some : List (List ℕ) → Type 0
-Some = Each (λ (l : List ℕ). 0 < length l)
+abbrev NonEmpty : List (List ℕ) → Type 0
+NonEmpty = Each (λ (l : List ℕ). 0 < length l)
 
-none_total : (ls : List (List ℕ)) → Some ls → total ls ≡ 0 → ls ≡ []
+none_total : (ls : List (List ℕ)) → NonEmpty ls → total ls ≡ 0 → ls ≡ []
 unfolding total
 none_total [] h e = refl
 none_total (l ∷ ls) h e = absurd (omega (arith, h.0))
 
-met_all : (n : ℕ) (ls : List (List ℕ)) → Some ls → total (through (take n ls)) ≡ total ls → through (take n ls) ≡ ls
+met_all : (n : ℕ) (ls : List (List ℕ)) → NonEmpty ls → total (through (take n ls)) ≡ total ls → through (take n ls) ≡ ls
 unfolding through total
 met_all zero ls h e = sym (none_total ls h (sym e))
 met_all (suc n) [] h e = refl
@@ -89,26 +88,26 @@ met_all (suc n) (l ∷ ls) h e = go (is_found (columns_of l)) e (met_all n ls h.
 
 -- lines in front of the last of them: no column header
 met_front : (n : ℕ) (a : List (List ℕ)) (x : List ℕ) (b : List (List ℕ)) → through (take n (a ++ (x ∷ b))) ≡ a ++ (x ∷ b)
-    → (through (take n a) ≡ a) × (last_columns a ≡ NoColumns) × (length a < n)
+    → (through (take n a) ≡ a) × (last_columns a ≡ None) × (length a < n)
 unfolding through last_columns
 met_front zero [] x b e = absurd (nil≢cons e)
 met_front zero (l ∷ a) x b e = absurd (nil≢cons e)
 met_front (suc n) [] x b e = (refl, refl, omega arith)
 met_front (suc n) (l ∷ a) x b e = go (columns_of l) refl e (met_front n a x b)
   where
-    go : (k : ColumnsRead) → columns_of l ≡ k → cond (is_found k) (l ∷ []) (l ∷ through (take n (a ++ (x ∷ b)))) ≡ l ∷ (a ++ (x ∷ b))
-        → (through (take n (a ++ (x ∷ b))) ≡ a ++ (x ∷ b) → (through (take n a) ≡ a) × (last_columns a ≡ NoColumns) × (length a < n))
-        → (cond (is_found k) (l ∷ []) (l ∷ through (take n a)) ≡ l ∷ a) × (last_columns (l ∷ a) ≡ NoColumns) × (suc (length a) < suc n)
-    go (Found c) f e ih = absurd (not_none x b a (tail-eq_of_cons-eq e))
-    go NoColumns f e ih = let w = ih (tail-eq_of_cons-eq e) in (rw w.0, last_passed l a f ∙ w.1, omega (arith, w.2))
+    go : (k : Option Columns) → columns_of l ≡ k → cond (is_found k) (l ∷ []) (l ∷ through (take n (a ++ (x ∷ b)))) ≡ l ∷ (a ++ (x ∷ b))
+        → (through (take n (a ++ (x ∷ b))) ≡ a ++ (x ∷ b) → (through (take n a) ≡ a) × (last_columns a ≡ None) × (length a < n))
+        → (cond (is_found k) (l ∷ []) (l ∷ through (take n a)) ≡ l ∷ a) × (last_columns (l ∷ a) ≡ None) × (suc (length a) < suc n)
+    go (Some c) f e ih = absurd (not_none x b a (tail-eq_of_cons-eq e))
+    go None f e ih = let w = ih (tail-eq_of_cons-eq e) in (rw w.0, last_passed l a f ∙ w.1, omega (arith, w.2))
 
-readable_front : (n : ℕ) (a b : List (List ℕ)) → unreadable_line n (a ++ b) ≡ none → unreadable_line n a ≡ none
+readable_front : (n : ℕ) (a b : List (List ℕ)) → unreadable_line n (a ++ b) ≡ None → unreadable_line n a ≡ None
 unfolding unreadable_line
 readable_front n [] b e = refl
 readable_front n (l ∷ a) b e = go (readable l) e (readable_front (n + 1) a b)
   where
-    go : (z : Bool) → cond z (unreadable_line (n + 1) (a ++ b)) (some (n + 1)) ≡ none → (unreadable_line (n + 1) (a ++ b) ≡ none → unreadable_line (n + 1) a ≡ none)
-        → cond z (unreadable_line (n + 1) a) (some (n + 1)) ≡ none
+    go : (z : Bool) → cond z (unreadable_line (n + 1) (a ++ b)) (Some (n + 1)) ≡ None → (unreadable_line (n + 1) (a ++ b) ≡ None → unreadable_line (n + 1) a ≡ None)
+        → cond z (unreadable_line (n + 1) a) (Some (n + 1)) ≡ None
     go true e ih = ih e
     go false e ih = e
 
@@ -117,7 +116,7 @@ unfolding total flatten
 total_flatten [] = refl
 total_flatten (l ∷ ls) = rw (total_flatten ls) (sym (length-append l (flatten ls)))
 
-single_some : (ls : List (List ℕ)) → Each (λ (l : List ℕ). lines l ≡ l ∷ []) ls → Some ls
+single_some : (ls : List (List ℕ)) → Each (λ (l : List ℕ). lines l ≡ l ∷ []) ls → NonEmpty ls
 unfolding lines
 single_some [] h = tt
 single_some ([] ∷ ls) h = absurd (nil≢cons h.0)
@@ -128,17 +127,17 @@ abbrev position_of : Opening → ℕ
 position_of (opened σ) = σ.position
 position_of (notOpened number line) = 0
 
-accepts : (t : Float) (σ : State) (b : Bool) (u : Option ℕ) (p : Preamble) (k : ColumnsRead) (i : ℕ) → cond b (open_with t (answer u p k i)) (notOpened 4 0) ≡ opened σ
-    → (b ≡ true) × (u ≡ none) × (σ.position ≡ i)
+accepts : (t : Float) (σ : State) (b : Bool) (u : Option ℕ) (p : Preamble) (k : Option Columns) (i : ℕ) → cond b (open_with t (answer u p k i)) (notOpened 4 0) ≡ opened σ
+    → (b ≡ true) × (u ≡ None) × (σ.position ≡ i)
 accepts t σ false u p k i e = let z : ◌≡◌ {A = ℕ} 0 1 = cc in absurd (omega arith)
-accepts t σ true (some n) p k i e = let z : ◌≡◌ {A = ℕ} 0 1 = cc in absurd (omega arith)
-accepts t σ true none p NoColumns i e = let z : ◌≡◌ {A = ℕ} 0 1 = cc in absurd (omega arith)
-accepts t σ true none p (Found c) i e = (refl, refl, sym (ap position_of e))
+accepts t σ true (Some n) p k i e = let z : ◌≡◌ {A = ℕ} 0 1 = cc in absurd (omega arith)
+accepts t σ true None p None i e = let z : ◌≡◌ {A = ℕ} 0 1 = cc in absurd (omega arith)
+accepts t σ true None p (Some c) i e = (refl, refl, sym (ap position_of e))
 
-no_columns : (t : Float) (σ : State) (b : Bool) (u : Option ℕ) (p : Preamble) (i : ℕ) → cond b (open_with t (answer u p NoColumns i)) (notOpened 4 0) ≡ opened σ → ⊥
+no_columns : (t : Float) (σ : State) (b : Bool) (u : Option ℕ) (p : Preamble) (i : ℕ) → cond b (open_with t (answer u p None i)) (notOpened 4 0) ≡ opened σ → ⊥
 no_columns t σ false u p i e = let z : ◌≡◌ {A = ℕ} 0 1 = cc in absurd (omega arith)
-no_columns t σ true (some n) p i e = let z : ◌≡◌ {A = ℕ} 0 1 = cc in absurd (omega arith)
-no_columns t σ true none p i e = let z : ◌≡◌ {A = ℕ} 0 1 = cc in absurd (omega arith)
+no_columns t σ true (Some n) p i e = let z : ◌≡◌ {A = ℕ} 0 1 = cc in absurd (omega arith)
+no_columns t σ true None p i e = let z : ◌≡◌ {A = ℕ} 0 1 = cc in absurd (omega arith)
 
 -- one line more
 joined : (c : List (List ℕ)) (x : List ℕ) → flatten c ++ x ≡ flatten (c ++ (x ∷ []))
@@ -149,7 +148,7 @@ counted : (c : List (List ℕ)) (x : List ℕ) → length c < 64 → after (leng
 counted c x h = let z : length c + 1 < 2 ^ 64 = omega arith in rw (mod-eq_of_lt z) (sym (length-append c (x ∷ [])))
 
 module _ (t : Float) (h : List ℕ) (σ : State) (a : Accepted t h σ) where
-  facts : (is_timestamp t ≡ true) × (unreadable_line 0 (through (take 64 (lines h))) ≡ none) × (σ.position ≡ 0 + total (through (take 64 (lines h))))
+  facts : (is_timestamp t ≡ true) × (unreadable_line 0 (through (take 64 (lines h))) ≡ None) × (σ.position ≡ 0 + total (through (take 64 (lines h))))
   unfolding open_of header header_from
   facts =
       let met = through (take 64 (lines h)) in
@@ -173,7 +172,7 @@ module _ (t : Float) (h : List ℕ) (σ : State) (a : Accepted t h σ) where
   not_yet c x b e =
       let m : through (take 64 (c ++ (x ∷ b))) ≡ c ++ (x ∷ b) = rw (← e) all in
       let w = met_front 64 c x b m in
-      let r : unreadable_line 0 (c ++ (x ∷ b)) ≡ none = rw (← m, ← e) facts.1 in
+      let r : unreadable_line 0 (c ++ (x ∷ b)) ≡ None = rw (← m, ← e) facts.1 in
       (rw (facts.0, front_lines c h x b e, w.0, readable_front 0 c (x ∷ b) r, w.1), w.2)
 
   -- the header's lines one by one, and then the table is open

@@ -1,10 +1,11 @@
 -- A route's line: by the numbers of its path, or put together from texts; and what the lines of the body begin with.
+use Rattle.std.specs.Prelude.{Option, Result, Ok, Err}
 use Rattle.std.proofs.Common.{◌≡◌, ℕ, ◌+◌, ◌<◌, ◌≤◌, Bool, true, false, not, ◌||◌, ltb, leb, List, ◌++◌, length, take, drop, sym, refl, ap, ◌∙◌, subst, append_assoc, arith, length-append, length-take, take_at, le-ltb, le-leb}
 use lib.Seq.{take-length}
 use borrow.Author.Tests.{lt-leb}
 use Rattle.output.specs.Output.{Written, front, answer, room, overwrite}
-use Rattle.output.specs.declared.Put.{Put}
-use Rattle.output.specs.declared.Put.TheVariants as written
+use Rattle.output.specs.declared.PutError.{PutError}
+use Rattle.output.specs.declared.PutError.TheVariants.{TooShort as NoRoom}
 use Rattle.output.proofs.Output.{all_written, length_overwrite}
 use Rattle.columns.specs.Columns.{are_rising}
 use Rattle.seconds.specs.Seconds.{is_timestamp}
@@ -12,14 +13,14 @@ use Rattle.network.specs.Prefix.{valid_prefix}
 use Rattle.network.specs.declared.NetworkPrefix.{NetworkPrefix}
 use Rattle.elem.specs.Element.{spoilt as spoiltElement}
 use Rattle.elem.specs.declared.Element.{Element}
-use Rattle.elem.specs.declared.OptAsn.{OptAsn}
+use Rattle.network.specs.declared.Asn.{Asn}
 use Rattle.psv.specs.Line.{psv_text, between_text, sequence_text, asn_text, attributes_text, texts_line}
-use Rattle.psv.specs.declared.ElementPut.{ElementPut}
-use Rattle.psv.specs.declared.ElementPut.TheVariants as put
+use Rattle.psv.specs.declared.ElementError.{ElementError}
+use Rattle.psv.specs.declared.ElementError.TheVariants.{Spoilt, TooShort}
 use Rattle.psv.proofs.Copied.{copied_line, attributes_same}
 use Rattle.path_text.specs.Path.{asns_of, put_answer}
-use Rattle.path_text.specs.declared.AsnsPut.{AsnsPut}
-use Rattle.path_text.specs.declared.AsnsPut.TheVariants as asns
+use Rattle.path_text.specs.declared.AsnsError.{AsnsError}
+use Rattle.path_text.specs.declared.AsnsError.TheVariants.{TooFewPlaces}
 use Rattle.path_text.proofs.PathLaws.{few_told, all_told, all_laid}
 use Rattle.text_dump_line.specs.Line.{path_of}
 use Rattle.text_dump_line.specs.declared.PrefixText.{PrefixText}
@@ -33,18 +34,21 @@ use Rattle.text_dump.specs.declared.Remembered.TheVariants as remembered
 use Rattle.text_dump.specs.declared.State.{State}
 use Rattle.text_dump.proofs.StateLaws.{stored_plain, first, second}
 use Rattle.psv_stream.specs.Parts.{PutElement, element_for, PutRoute, PutCopy, copied_text, Copies, front_of, Fine, Begins, kept_len}
-use Rattle.psv_stream.specs.declared.RoutePut.{RoutePut}
-use Rattle.psv_stream.specs.declared.RoutePut.TheVariants as route
+use Rattle.psv_stream.specs.Refusal.{of_asns, of_element}
+use Rattle.psv_stream.specs.declared.Refusal.{Refusal}
+use Rattle.std.specs.Result.{IsErrAnd}
+use Rattle.psv_stream.specs.declared.Refusal.TheVariants.{TooFewPlaces as FewPlaces, SpoiltElement, ElementTooLong}
 use Rattle.psv_stream.proofs.Texts.{Told, told_by, text_taken, spoilt_taken}
 
 -- by the numbers
-module _ (σ : State) (p : NetworkPrefix) (e : RouteEntry) (path old : List ℕ) (places : length old ≡ 16384) (r : AsnsPut) (new : List ℕ) (told : (r ≡ put_answer (asns_of path) old) × (new ≡ front (asns_of path) old)) where
-  pub seven : r ≡ asns.TooFew → (out : List ℕ) → PutRoute σ p e (asns_of path) out out (route.Refused 7)
-  seven k out =
+module _ (σ : State) (p : NetworkPrefix) (e : RouteEntry) (path old : List ℕ) (places : length old ≡ 16384) (r : Result ℕ AsnsError) (new : List ℕ) (told : (r ≡ put_answer (asns_of path) old) × (new ≡ front (asns_of path) old)) where
+  pub seven : (z : AsnsError) → r ≡ Err z → (out : List ℕ) (r' : Result ℕ Refusal) → IsErrAnd r' (λ y. y ≡ of_asns z) → PutRoute σ p e (asns_of path) out out r'
+  seven z k out (Ok w) g = absurd g
+  seven TooFewPlaces k out (Err y) g =
       let few : leb (length (asns_of path)) 16384 ≡ false = rw places at (few_told (asns_of path) old (sym told.0 ∙ k)) in
-      (λ n u. rw few, refl)
+      rw g ((λ n u. rw few), refl)
 
-  module _ (count : ℕ) (k : r ≡ asns.Wrote count) (o : OptAsn) (last : o ≡ origin_asn (take count new)) (y : Element) (made : y ≡ element_of σ p e count o) where
+  module _ (count : ℕ) (k : r ≡ Ok count) (o : Option Asn) (last : o ≡ origin_asn (take count new)) (y : Element) (made : y ≡ element_of σ p e count o) where
     told_all : (leb (length (asns_of path)) (length old) ≡ true) × (count ≡ length (asns_of path))
     told_all = all_told (asns_of path) old count (sym told.0 ∙ k)
 
@@ -58,7 +62,7 @@ module _ (σ : State) (p : NetworkPrefix) (e : RouteEntry) (path old : List ℕ)
     element = element_for σ p e (asns_of path)
 
     is_element : y ≡ element
-    is_element = made ∙ ap (λ (x : OptAsn). element_of σ p e count x) (last ∙ ap origin_asn taken) ∙ ap (λ (c : ℕ). element_of σ p e c (origin_asn (asns_of path))) told_all.1
+    is_element = made ∙ ap (λ (x : Option Asn). element_of σ p e count x) (last ∙ ap origin_asn taken) ∙ ap (λ (c : ℕ). element_of σ p e c (origin_asn (asns_of path))) told_all.1
 
     -- of the lent list only the element's own numbers count
     own : {A : Type 0} (f : Element → List ℕ → A) → f y (take y.count new) ≡ f element (asns_of path)
@@ -70,26 +74,31 @@ module _ (σ : State) (p : NetworkPrefix) (e : RouteEntry) (path old : List ℕ)
     spoils : spoiltElement y new ≡ spoiltElement element (asns_of path)
     spoils = sym (spoilt_taken y new) ∙ own spoiltElement
 
-    module _ (out out' : List ℕ) (q : ElementPut) (known : PutElement y new out out' q) where
-      pub numbers_wrote : (w : ℕ) → q ≡ put.Wrote w → PutRoute σ p e (asns_of path) out out' (route.Wrote w)
+    module _ (out out' : List ℕ) (q : Result ℕ ElementError) (known : PutElement y new out out' q) where
+      pub numbers_wrote : (w : ℕ) → q ≡ Ok w → PutRoute σ p e (asns_of path) out out' (Ok w)
       numbers_wrote w f =
-          let h : PutElement y new out out' (put.Wrote w) = rw f at known in
+          let h : PutElement y new out out' (Ok w) = rw f at known in
           let fine : spoiltElement element (asns_of path) ≡ false = sym spoils ∙ h.0 in
           let short : leb (length (psv_text element (asns_of path))) 65536 ≡ true = rw text at (le-leb (length (psv_text y new)) 65536 h.1) in
           (λ n u. rw (places_fit, fine, short), rw text at h.2)
 
-      pub eight : q ≡ put.Spoilt → PutRoute σ p e (asns_of path) out out' (route.Refused 8)
+      pub eight : q ≡ (Err Spoilt) → PutRoute σ p e (asns_of path) out out' (Err SpoiltElement)
       eight f =
-          let h : PutElement y new out out' put.Spoilt = rw f at known in
+          let h : PutElement y new out out' (Err Spoilt) = rw f at known in
           let bad : spoiltElement element (asns_of path) ≡ true = sym spoils ∙ h.0 in
           (λ n u. rw (places_fit, bad), h.1)
 
-      pub nine : q ≡ put.TooShort → PutRoute σ p e (asns_of path) out out' (route.Refused 9)
+      pub nine : q ≡ (Err TooShort) → PutRoute σ p e (asns_of path) out out' (Err ElementTooLong)
       nine f =
-          let h : PutElement y new out out' put.TooShort = rw f at known in
+          let h : PutElement y new out out' (Err TooShort) = rw f at known in
           let fine : spoiltElement element (asns_of path) ≡ false = sym spoils ∙ h.0 in
           let long : leb (length (psv_text element (asns_of path))) 65536 ≡ false = rw text at (lt-leb (length (psv_text y new)) 65536 h.1) in
           (λ n u. rw (places_fit, fine, long), h.2)
+
+      pub numbers_failed : (z : ElementError) → q ≡ Err z → (r' : Result ℕ Refusal) → IsErrAnd r' (λ y. y ≡ of_element z) → PutRoute σ p e (asns_of path) out out' r'
+      numbers_failed z f (Ok w) g = absurd g
+      numbers_failed Spoilt f (Err y) g = rw g (eight f)
+      numbers_failed TooShort f (Err y) g = rw g (nine f)
 
 -- an element of a reading is not spoilt
 module _ (σ : State) (p : NetworkPrefix) (e : RouteEntry) (ns : List ℕ) where
@@ -106,7 +115,7 @@ module _ (σ : State) (p : NetworkPrefix) (e : RouteEntry) (ns : List ℕ) where
 
 -- from texts: of the element only its attributes are looked at
 module _ (σ : State) (p : NetworkPrefix) (e : RouteEntry) where
-  module _ (begin path : List ℕ) (starts : begin ≡ front_of σ ++ between_text p) (o : OptAsn) (y : Element) (made : y ≡ element_of σ p e 0 o) where
+  module _ (begin path : List ℕ) (starts : begin ≡ front_of σ ++ between_text p) (o : Option Asn) (y : Element) (made : y ≡ element_of σ p e 0 o) where
     abbrev element' : Element
     element' = element_for σ p e (asns_of path)
 
@@ -118,27 +127,27 @@ module _ (σ : State) (p : NetworkPrefix) (e : RouteEntry) where
         rw same
         (copied_line element' (asns_of path) begin (sequence_text (asns_of path)) (asn_text (origin_asn (asns_of path))) (asns_of path) starts refl (sym (take-length (asns_of path))) refl)
 
-  pub copied : (begin path : List ℕ) → (0 < length begin → begin ≡ front_of σ ++ between_text p) → (length begin ≡ 0 → ⊥) → (o : OptAsn) (y : Element) → y ≡ element_of σ p e 0 o
-      → Fine σ (remembered.Valid p) → (out new : List ℕ) (r : Put) → Copies begin path y out new r → PutCopy σ p e (asns_of path) out new r
+  pub copied : (begin path : List ℕ) → (0 < length begin → begin ≡ front_of σ ++ between_text p) → (length begin ≡ 0 → ⊥) → (o : Option Asn) (y : Element) → y ≡ element_of σ p e 0 o
+      → Fine σ (remembered.Valid p) → (out new : List ℕ) (r : Result ℕ PutError) → Copies begin path y out new r → PutCopy σ p e (asns_of path) out new r
   copied begin path starts some o y made fine out new = go
     where
       text : copied_text begin path y ≡ psv_text (element_for σ p e (asns_of path)) (asns_of path)
       text = copied_text_lem begin path (starts (omega (arith, some))) o y made
 
-      go : (r : Put) → Copies begin path y out new r → PutCopy σ p e (asns_of path) out new r
-      go (written.Wrote w) h =
+      go : (r : Result ℕ PutError) → Copies begin path y out new r → PutCopy σ p e (asns_of path) out new r
+      go (Ok w) h =
           let short : leb (length (psv_text (element_for σ p e (asns_of path)) (asns_of path))) 65536 ≡ true = rw text at (le-leb (length (copied_text begin path y)) 65536 h.1) in
           (λ n u. rw (le-leb (length (asns_of path)) 16384 h.0, fine_element σ p e (asns_of path) fine, short), rw text at h.2)
-      go written.TooShort h = h
+      go (Err NoRoom) h = h
 
   -- the one or the other
-  module _ (path line : List ℕ) (here : path ≡ path_of e line) (out new : List ℕ) (c : Put) (known : PutCopy σ p e (asns_of path) out new c) where
-    pub by_copy : (w : ℕ) → c ≡ written.Wrote w → PutRoute σ p e (asns_of (path_of e line)) out new (route.Wrote w)
-    by_copy w f = let h : PutCopy σ p e (asns_of path) out new (written.Wrote w) = rw f at known in rw (← here) h
+  module _ (path line : List ℕ) (here : path ≡ path_of e line) (out new : List ℕ) (c : Result ℕ PutError) (known : PutCopy σ p e (asns_of path) out new c) where
+    pub by_copy : (w : ℕ) → c ≡ Ok w → PutRoute σ p e (asns_of (path_of e line)) out new (Ok w)
+    by_copy w f = let h : PutCopy σ p e (asns_of path) out new (Ok w) = rw f at known in rw (← here) h
 
-    pub by_numbers : c ≡ written.TooShort → (newer : List ℕ) (r : RoutePut) → PutRoute σ p e (asns_of path) new newer r
+    pub by_numbers : (z : PutError) → c ≡ Err z → (newer : List ℕ) (r : Result ℕ Refusal) → PutRoute σ p e (asns_of path) new newer r
         → PutRoute σ p e (asns_of (path_of e line)) out newer r
-    by_numbers f newer r d = let h : PutCopy σ p e (asns_of path) out new written.TooShort = rw f at known in rw (← here, ← h) d
+    by_numbers NoRoom f newer r d = let h : PutCopy σ p e (asns_of path) out new (Err NoRoom) = rw f at known in rw (← here, ← h) d
 
 -- what lines begin with
 module _ (start : List ℕ) (n : ℕ) (m : Remembered) (k : ℕ) where
@@ -200,9 +209,9 @@ module _ (σ : State) (m : Remembered) (out : List ℕ) where
   pub no_front : Begins (front_of σ) out 0 m 0
   no_front = record { front_inside = omega arith; is_front = λ h. absurd (omega arith); inside = omega arith; is_begin = λ q e h. absurd (omega arith) }
 
-  pub front_put : (r : Put) (new : List ℕ) → (r ≡ answer (front_of σ) out) × (new ≡ front (front_of σ) out) → (n : ℕ) → r ≡ written.Wrote n → Begins (front_of σ) new n m 0
+  pub front_put : (r : Result ℕ PutError) (new : List ℕ) → (r ≡ answer (front_of σ) out) × (new ≡ front (front_of σ) out) → (n : ℕ) → r ≡ Ok n → Begins (front_of σ) new n m 0
   front_put r new told n e =
-      let z : Told (front_of σ) out new (written.Wrote n) = rw e at (told_by (front_of σ) out new r told) in
+      let z : Told (front_of σ) out new (Ok n) = rw e at (told_by (front_of σ) out new r told) in
       record {
         front_inside = rw (z.2, length-append) (omega (arith, z.0));
         is_front = λ i. rw z.2 (take_at (front_of σ) (drop (length (front_of σ)) out) n (sym z.0));

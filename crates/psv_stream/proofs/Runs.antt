@@ -171,7 +171,7 @@ module _ (p₀ : Phase) (s : List ℕ) (ended : Bool) (out₀ : List ℕ) (h : R
 
   other : (p : Phase) → is_head p ≡ false → ((σ : State) (n : ℕ) → p ≡ Body σ n → ⊥) → p ≡ Stopped
   other Path f o = absurd (false≢true (sym f))
-  other (Header t n size) f o = absurd (false≢true (sym f))
+  other (Header t n _) f o = absurd (false≢true (sym f))
   other (Body σ n) f o = absurd (o σ n refl)
   other Stopped f o = refl
 

@@ -1,7 +1,7 @@
 -- What is printed of a table of which no line is refused: the PSV lines of its elements, which are those of the joined body (demand 3).
+use Rattle.std.specs.Prelude.{None}
 use Rattle.std.proofs.Common.{◌≡◌, ℕ, ◌-◌, ◌≤◌, true, List, [], ◌∷◌, ◌++◌, map, length, sym, refl, ap, ◌∙◌, append-nil, arith, le-ltb, le-leb}
 use mathlib.Core.List.{flatten, map-append}
-use mathlib.Core.Option.{none}
 use lib.Ieee.{Float}
 use Rattle.scan.specs.Lines.{lines, Cut}
 use Rattle.scan.proofs.LineLaws.{lines_append}
@@ -78,7 +78,7 @@ module _ (σ : State) (rising : are_rising σ.columns ≡ true) (time : is_times
     abbrev Does : Plain NetworkPrefix RouteData → Remembered NetworkPrefix → Type 0
     Does x m = (j : ℕ) × (answered n (one x l m).0 (one x l m).1 ≡ (text (after_line m x) (routes x), body (at j (after_line m x)) n))
 
-    does_route : (t m y : Remembered NetworkPrefix) (r : RouteData) → replace t m ≡ y → (rules σ).refusal 16384 r ≡ none → FitsPrefixFact Fits y
+    does_route : (t m y : Remembered NetworkPrefix) (r : RouteData) → replace t m ≡ y → (rules σ).refusal 16384 r ≡ None → FitsPrefixFact Fits y
         → Each HasRoom (under (rules σ) y (r ∷ [])) → Does (route t r) m
     unfolding flatten
     does_route t m nothing r e f h room = (length l - 0, rw e)

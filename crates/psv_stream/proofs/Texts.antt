@@ -1,19 +1,21 @@
 -- Texts at the front of the lent list: a refusal, the PSV header, an element's line.
+use Rattle.std.specs.Prelude.{Result, Ok, Err}
 use Rattle.std.proofs.Common.{◌≡◌, ℕ, ◌<◌, ◌≤◌, Bool, true, false, cond, ltb, leb, List, [], ◌++◌, length, take, drop, sym, refl, ap, ◌∙◌, subst, append_assoc, zero-add, arith, length-append, take-append-drop, length-take, take-take, take_at, drop_at, w64, Fits, ltb-false, ltb-true, le-ltb, lt-ltb, leb-false, leb-true}
 use lib.Seq.{drop-append-le}
 use Rattle.scan.specs.Ascii.{ascii}
 use Rattle.decimal_display.specs.Printed.{decimal}
 use Rattle.output.specs.Output.{Written, front, answer}
-use Rattle.output.specs.declared.Put.{Put}
-use Rattle.output.specs.declared.Put.TheVariants as answers
+use Rattle.output.specs.declared.PutError.{PutError}
+use Rattle.output.specs.declared.PutError.TheVariants.{TooShort as NoRoom}
 use Rattle.decimal_display.proofs.Printed.{digits_most}
 use Rattle.output.proofs.Output.{then, all_written, overwrite_all, room_all}
 use Rattle.elem.specs.Element.{spoilt}
 use Rattle.elem.specs.declared.Element.{Element}
 use Rattle.aspath_display.specs.Display.{separated}
 use Rattle.psv.specs.Line.{header_text, psv_text, Printed}
-use Rattle.psv.specs.declared.ElementPut.{ElementPut}
-use Rattle.psv.specs.declared.ElementPut.TheVariants as put
+use Rattle.std.specs.Result.{IsErrAnd}
+use Rattle.psv.specs.declared.ElementError.{ElementError}
+use Rattle.psv.specs.declared.ElementError.TheVariants.{Spoilt, TooShort}
 use Rattle.psv_stream.specs.Printed.{feed, refusal_text}
 use Rattle.psv_stream.specs.Parts.{Puts, PutElement}
 
@@ -67,30 +69,30 @@ with_feed : (t out new : List ℕ) (w : ℕ) → length t < length out → Writt
 with_feed t out new w h v = puts (t ++ feed) out new w (then (front_written t out (omega arith)) v) (rw length-append (omega arith))
 
 -- a call that measures its text, by its answer
-abbrev pub Told : List ℕ → List ℕ → List ℕ → Put → Type 0
-Told t out new (answers.Wrote n) = (n ≡ length t) × (length t ≤ length out) × (new ≡ t ++ drop (length t) out)
-Told t out new answers.TooShort = (length out < length t) × (new ≡ out)
+abbrev pub Told : List ℕ → List ℕ → List ℕ → Result ℕ PutError → Type 0
+Told t out new (Ok n) = (n ≡ length t) × (length t ≤ length out) × (new ≡ t ++ drop (length t) out)
+Told t out new (Err NoRoom) = (length out < length t) × (new ≡ out)
 
-pub told_by : (t out new : List ℕ) (r : Put) → (r ≡ answer t out) × (new ≡ front t out) → Told t out new r
+pub told_by : (t out new : List ℕ) (r : Result ℕ PutError) → (r ≡ answer t out) × (new ≡ front t out) → Told t out new r
 unfolding answer front
 told_by t out new r told = subst (Told t out new) (sym told.0) (go (leb (length t) (length out)) refl told.1)
   where
-    go : (b : Bool) → leb (length t) (length out) ≡ b → new ≡ cond b (t ++ drop (length t) out) out → Told t out new (cond b (answers.Wrote (length t)) answers.TooShort)
+    go : (b : Bool) → leb (length t) (length out) ≡ b → new ≡ cond b (t ++ drop (length t) out) out → Told t out new (cond b (Ok (length t)) (Err NoRoom))
     go true e h = (refl, leb-true (length t) (length out) e, h)
     go false e h = (leb-false (length t) (length out) e, h)
 
 -- the same of one that tests its element first
-abbrev Said : Bool → List ℕ → List ℕ → List ℕ → ElementPut → Type 0
-Said s t out new (put.Wrote n) = (s ≡ false) × Told t out new (answers.Wrote n)
-Said s t out new put.Spoilt = (s ≡ true) × (new ≡ out)
-Said s t out new put.TooShort = (s ≡ false) × Told t out new answers.TooShort
+abbrev Said : Bool → List ℕ → List ℕ → List ℕ → Result ℕ ElementError → Type 0
+Said s t out new (Ok n) = (s ≡ false) × Told t out new (Ok n)
+Said s t out new (Err Spoilt) = (s ≡ true) × (new ≡ out)
+Said s t out new (Err TooShort) = (s ≡ false) × Told t out new (Err NoRoom)
 
-said_by : (s : Bool) (t out new : List ℕ) (r : ElementPut) → Printed s t out r new → Said s t out new r
+said_by : (s : Bool) (t out new : List ℕ) (r : Result ℕ ElementError) → Printed s t out r new → Said s t out new r
 unfolding front
 said_by s t out new r p = subst (Said s t out new) (sym p.told) (go s (leb (length t) (length out)) refl p.left)
   where
     go : (s b : Bool) → leb (length t) (length out) ≡ b → new ≡ cond s out (cond b (t ++ drop (length t) out) out)
-        → Said s t out new (cond s put.Spoilt (cond b (put.Wrote (length t)) put.TooShort))
+        → Said s t out new (cond s (Err Spoilt) (cond b (Ok (length t)) (Err TooShort)))
     go true b e h = (refl, h)
     go false true e h = (refl, (refl, leb-true (length t) (length out) e, h))
     go false false e h = (refl, (leb-false (length t) (length out) e, h))
@@ -100,15 +102,15 @@ header_length : length header_text ≡ 142
 unfolding header_text separated
 header_length = refl
 
-module _ (out : List ℕ) (room : 65537 ≤ length out) (r : Put) (o : List ℕ) (told : (r ≡ answer header_text out) × (o ≡ front header_text out)) where
-  pub header_never_short : r ≡ answers.TooShort → Puts (header_text ++ feed) out o 0
-  header_never_short e =
-      let z : Told header_text out o answers.TooShort = rw e at (told_by header_text out o r told) in
+module _ (out : List ℕ) (room : 65537 ≤ length out) (r : Result ℕ PutError) (o : List ℕ) (told : (r ≡ answer header_text out) × (o ≡ front header_text out)) where
+  pub header_never_short : (z : PutError) → r ≡ Err z → Puts (header_text ++ feed) out o 0
+  header_never_short NoRoom e =
+      let z : Told header_text out o (Err NoRoom) = rw e at (told_by header_text out o r told) in
       absurd (omega (arith, header_length, z.0))
 
-  pub header_put : (n : ℕ) → r ≡ answers.Wrote n → (new : List ℕ) (w : ℕ) → Written feed o n new w → Puts (header_text ++ feed) out new w
+  pub header_put : (n : ℕ) → r ≡ Ok n → (new : List ℕ) (w : ℕ) → Written feed o n new w → Puts (header_text ++ feed) out new w
   header_put n e new w v =
-      let z : Told header_text out o (answers.Wrote n) = rw e at (told_by header_text out o r told) in
+      let z : Told header_text out o (Ok n) = rw e at (told_by header_text out o r told) in
       with_feed header_text out new w (omega (arith, header_length)) (rw (z.2, z.0) at v)
 
 -- a text put to the first 65,536 bytes, and a line feed behind it
@@ -116,7 +118,7 @@ module _ (out part : List ℕ) (room : 65537 ≤ length out) where
   part_length : length (take 65536 out) ≡ 65536
   part_length = simp length-take (omega arith)
 
-  pub part_put : (t : List ℕ) (n : ℕ) → Told t (take 65536 out) part (answers.Wrote n) → (new : List ℕ) (w : ℕ)
+  pub part_put : (t : List ℕ) (n : ℕ) → Told t (take 65536 out) part (Ok n) → (new : List ℕ) (w : ℕ)
       → Written feed (part ++ drop 65536 out) n new w → (length t ≤ 65536) × Puts (t ++ feed) out new w
   part_put t n z new w v =
       let h : length t ≤ 65536 = omega (arith, part_length, z.1) in
@@ -129,24 +131,29 @@ module _ (out part : List ℕ) (room : 65537 ≤ length out) where
   whole_again f = rw f (take-append-drop 65536 out)
 
 -- an element's line, printed to the first 65,536 bytes
-module _ (e : Element) (asns out part : List ℕ) (r : ElementPut) (room : 65537 ≤ length out) (p : Printed (spoilt e asns) (psv_text e asns) (take 65536 out) r part) where
+module _ (e : Element) (asns out part : List ℕ) (r : Result ℕ ElementError) (room : 65537 ≤ length out) (p : Printed (spoilt e asns) (psv_text e asns) (take 65536 out) r part) where
   abbrev text : List ℕ
   text = psv_text e asns
 
-  said : (q : ElementPut) → r ≡ q → Said (spoilt e asns) text (take 65536 out) part q
+  said : (q : Result ℕ ElementError) → r ≡ q → Said (spoilt e asns) text (take 65536 out) part q
   said q f = subst (Said (spoilt e asns) text (take 65536 out) part) f (said_by (spoilt e asns) text (take 65536 out) part r p)
 
-  pub element_put : (n : ℕ) → r ≡ put.Wrote n → (new : List ℕ) (w : ℕ) → Written feed (part ++ drop 65536 out) n new w → PutElement e asns out new (put.Wrote w)
+  pub element_put : (n : ℕ) → r ≡ Ok n → (new : List ℕ) (w : ℕ) → Written feed (part ++ drop 65536 out) n new w → PutElement e asns out new (Ok w)
   element_put n f new w v =
-      let z = said (put.Wrote n) f in
+      let z = said (Ok n) f in
       let y = part_put out part room text n z.1 new w v in
       (z.0, y.0, y.1)
 
-  pub element_spoilt : r ≡ put.Spoilt → PutElement e asns out (part ++ drop 65536 out) put.Spoilt
-  element_spoilt f = let z = said put.Spoilt f in (z.0, whole_again out part room z.1)
+  pub element_spoilt : r ≡ (Err Spoilt) → PutElement e asns out (part ++ drop 65536 out) (Err Spoilt)
+  element_spoilt f = let z = said (Err Spoilt) f in (z.0, whole_again out part room z.1)
 
-  pub element_short : r ≡ put.TooShort → PutElement e asns out (part ++ drop 65536 out) put.TooShort
-  element_short f = let z = said put.TooShort f in (z.0, omega (arith, part_length out part room, z.1.0), whole_again out part room z.1.1)
+  pub element_short : r ≡ (Err TooShort) → PutElement e asns out (part ++ drop 65536 out) (Err TooShort)
+  element_short f = let z = said (Err TooShort) f in (z.0, omega (arith, part_length out part room, z.1.0), whole_again out part room z.1.1)
+
+  pub element_failed : (z : ElementError) → r ≡ Err z → (q : Result ℕ ElementError) → IsErrAnd q (λ y. y ≡ z) → PutElement e asns out (part ++ drop 65536 out) q
+  element_failed z f (Ok w) g = absurd g
+  element_failed Spoilt f (Err y) g = rw g (element_spoilt f)
+  element_failed TooShort f (Err y) g = rw g (element_short f)
 
 -- only the first so many of the lent AS numbers are the element's
 few : (n : ℕ) (l : List ℕ) → ltb (length (take n l)) n ≡ ltb (length l) n

@@ -1,14 +1,14 @@
 -- For the parts of a run: what the line comes to that comes next, and what is written of it.
-use Rattle.std.specs.Prelude.{◌≡◌, ℕ, ◌+◌, ◌-◌, ◌<◌, ◌≤◌, Bool, true, false, cond, List, [], ◌++◌, length, take, drop, nat_le}
-use Rattle.output.specs.declared.Put.{Put}
-use Rattle.output.specs.declared.Put.TheVariants as written
+use Rattle.std.specs.Prelude.{◌≡◌, ℕ, ◌+◌, ◌-◌, ◌<◌, ◌≤◌, Bool, true, false, cond, List, [], ◌++◌, length, take, drop, nat_le, Result, Ok, Err, Option, Some, None}
+use Rattle.output.specs.declared.PutError.{PutError}
+use Rattle.output.specs.declared.PutError.TheVariants.{TooShort as NoRoom}
 use Rattle.input.specs.Input.{Starved}
 use Rattle.network.specs.declared.NetworkPrefix.{NetworkPrefix}
 use Rattle.elem.specs.Element.{spoilt as spoiltElement}
 use Rattle.elem.specs.declared.Element.{Element}
 use Rattle.psv.specs.Line.{psv_text, front_text, between_text, sequence_text, asn_text, texts_line}
-use Rattle.psv.specs.declared.ElementPut.{ElementPut}
-use Rattle.psv.specs.declared.ElementPut.TheVariants as put
+use Rattle.psv.specs.declared.ElementError.{ElementError}
+use Rattle.psv.specs.declared.ElementError.TheVariants.{Spoilt, TooShort}
 use Rattle.timestamp.specs.Dates.{infer_timestamp}
 use Rattle.path_text.specs.Path.{asns_of}
 use Rattle.text_dump_line.specs.declared.PrefixText.{PrefixText}
@@ -25,13 +25,11 @@ use Rattle.psv_stream.specs.Printed.{header, stopped, feed}
 use Rattle.psv_stream.specs.Printed as P
 use Rattle.psv_stream.specs.declared.Phase.{Phase}
 use Rattle.psv_stream.specs.declared.Phase.TheVariants.{Path, Header, Body, Stopped}
-use Rattle.psv_stream.specs.declared.PlainPath.{PlainPath}
-use Rattle.psv_stream.specs.declared.PlainPath.TheVariants as plainPath
 use Rattle.psv_stream.specs.declared.Step.{Step}
 use Rattle.psv_stream.specs.declared.Step.TheVariants as step
 use Rattle.psv_stream.specs.declared.Ran.{Ran}
-use Rattle.psv_stream.specs.declared.RoutePut.{RoutePut}
-use Rattle.psv_stream.specs.declared.RoutePut.TheVariants as route
+use Rattle.psv_stream.specs.Refusal.{number}
+use Rattle.psv_stream.specs.declared.Refusal.{Refusal}
 use Rattle.psv_stream.specs.declared.Place.{Place}
 use Rattle.psv_stream.specs.declared.BodyStep.{BodyStep}
 use Rattle.psv_stream.specs.declared.BodyStep.TheVariants as bodyStep
@@ -69,10 +67,10 @@ abbrev pub TooLong : Phase → List ℕ → List ℕ → ℕ → Type 0
 TooLong p = Puts (long_text p)
 
 -- an element's line with its line feed
-abbrev pub PutElement : Element → List ℕ → List ℕ → List ℕ → ElementPut → Type 0
-PutElement e asns out new (put.Wrote w) = (spoiltElement e asns ≡ false) × (length (psv_text e asns) ≤ 65536) × Puts (psv_text e asns ++ feed) out new w
-PutElement e asns out new put.Spoilt = (spoiltElement e asns ≡ true) × (new ≡ out)
-PutElement e asns out new put.TooShort = (spoiltElement e asns ≡ false) × (65536 < length (psv_text e asns)) × (new ≡ out)
+abbrev pub PutElement : Element → List ℕ → List ℕ → List ℕ → Result ℕ ElementError → Type 0
+PutElement e asns out new (Ok w) = (spoiltElement e asns ≡ false) × (length (psv_text e asns) ≤ 65536) × Puts (psv_text e asns ++ feed) out new w
+PutElement e asns out new (Err Spoilt) = (spoiltElement e asns ≡ true) × (new ≡ out)
+PutElement e asns out new (Err TooShort) = (spoiltElement e asns ≡ false) × (65536 < length (psv_text e asns)) × (new ≡ out)
 
 -- a path's bytes up to `end` are what its numbers print as, and those from `last` on what the last of them prints as
 pub record Spells (path : List ℕ) (last end : ℕ) : Type 0 where
@@ -82,19 +80,19 @@ pub record Spells (path : List ℕ) (last end : ℕ) : Type 0 where
   pub asn : take (end - last) (drop last path) ≡ asn_text (origin_asn (asns_of path))
 
 -- what is told of a plain path; of others nothing is
-abbrev pub IsPlain : List ℕ → PlainPath → Type 0
-IsPlain path (plainPath.Text last end) = Spells path last end
-IsPlain path plainPath.Other = Unit {0}
+abbrev pub IsPlain : List ℕ → Option (ℕ × ℕ) → Type 0
+IsPlain path (Some (last, end)) = Spells path last end
+IsPlain path None = Unit {0}
 
 -- texts_line (psv: specs/Line.antt) of the texts that the path's numbers print as
 abbrev pub copied_text : List ℕ → List ℕ → Element → List ℕ
 copied_text begin path e = texts_line begin (sequence_text (asns_of path)) (asn_text (origin_asn (asns_of path))) e
 
 -- a route's line put together from texts: begin, the path as its numbers print, the last of them, and the attributes of e; where it is not, nothing is written
-abbrev pub Copies : List ℕ → List ℕ → Element → List ℕ → List ℕ → Put → Type 0
-Copies begin path e out new (written.Wrote w) =
+abbrev pub Copies : List ℕ → List ℕ → Element → List ℕ → List ℕ → Result ℕ PutError → Type 0
+Copies begin path e out new (Ok w) =
     (length (asns_of path) ≤ 16384) × (length (copied_text begin path e) ≤ 65536) × Puts (copied_text begin path e ++ feed) out new w
-Copies begin path e out new written.TooShort = new ≡ out
+Copies begin path e out new (Err NoRoom) = new ≡ out
 
 -- a line that ends at e does what z says
 abbrev pub Does : P.Step → List ℕ → ℕ → List ℕ → List ℕ → Step → Type 0
@@ -137,14 +135,14 @@ abbrev pub routed : State → NetworkPrefix → RouteEntry → List ℕ → ℕ 
 routed σ p e asns n u = cond (nat_le (length asns) 16384) (P.printed_element n u (element_for σ p e asns) asns) (P.refuse 7 n)
 
 -- that line written, or the number of its refusal with nothing written
-abbrev pub PutRoute : State → NetworkPrefix → RouteEntry → List ℕ → List ℕ → List ℕ → RoutePut → Type 0
-PutRoute σ p e asns out new (route.Wrote w) = ((n : ℕ) (u : State) → routed σ p e asns n u ≡ (route_text σ p e asns, P.body u n)) × Puts (route_text σ p e asns) out new w
-PutRoute σ p e asns out new (route.Refused k) = ((n : ℕ) (u : State) → routed σ p e asns n u ≡ P.refuse k n) × (new ≡ out)
+abbrev pub PutRoute : State → NetworkPrefix → RouteEntry → List ℕ → List ℕ → List ℕ → Result ℕ Refusal → Type 0
+PutRoute σ p e asns out new (Ok w) = ((n : ℕ) (u : State) → routed σ p e asns n u ≡ (route_text σ p e asns, P.body u n)) × Puts (route_text σ p e asns) out new w
+PutRoute σ p e asns out new (Err k) = ((n : ℕ) (u : State) → routed σ p e asns n u ≡ P.refuse (number k) n) × (new ≡ out)
 
 -- that line written, or nothing
-abbrev pub PutCopy : State → NetworkPrefix → RouteEntry → List ℕ → List ℕ → List ℕ → Put → Type 0
-PutCopy σ p e asns out new (written.Wrote w) = PutRoute σ p e asns out new (route.Wrote w)
-PutCopy σ p e asns out new written.TooShort = new ≡ out
+abbrev pub PutCopy : State → NetworkPrefix → RouteEntry → List ℕ → List ℕ → List ℕ → Result ℕ PutError → Type 0
+PutCopy σ p e asns out new (Ok w) = PutRoute σ p e asns out new (Ok w)
+PutCopy σ p e asns out new (Err NoRoom) = new ≡ out
 
 -- What the lines of the body begin with.
 

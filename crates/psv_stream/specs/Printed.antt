@@ -1,12 +1,12 @@
 -- What the program table2psv prints (01, Where a call says no, the last paragraph), for the whole of its input: line by line, as the lines come.
-use Rattle.std.specs.Prelude.{ℕ, ◌+◌, ◌%◌, ◌^◌, Bool, false, cond, ◌&&◌, List, [], ◌∷◌, ◌++◌, length, pos, ◌==◌, nat_le, nat_lt, Float}
+use Rattle.std.specs.Prelude.{ℕ, ◌+◌, ◌%◌, ◌^◌, Bool, false, cond, ◌&&◌, List, [], ◌∷◌, ◌++◌, length, pos, ◌==◌, nat_le, nat_lt, Float, Option, Some, None, Result, Ok, Err}
 use Rattle.std.specs.Float.{fin}
 use Rattle.scan.specs.Ascii.{ascii}
 use Rattle.scan.specs.Lines.{lines}
 use Rattle.decimal_display.specs.Printed.{decimal}
 use Rattle.timestamp.specs.Dates.{infer_timestamp}
-use Rattle.timestamp.specs.declared.Inferred.{Inferred}
-use Rattle.timestamp.specs.declared.Inferred.TheVariants.{Timestamp, Nothing, NotUtf8}
+use Rattle.timestamp.specs.declared.InferError.{InferError}
+use Rattle.timestamp.specs.declared.InferError.TheVariants.{NotUtf8}
 use Rattle.elem.specs.Element.{spoilt}
 use Rattle.elem.specs.declared.Element.{Element}
 use Rattle.psv.specs.Line.{header_text, psv_text}
@@ -47,10 +47,10 @@ abbrev pub too_long : List ℕ → Bool
 too_long text = nat_lt 65536 (length text)
 
 -- no date means 0
-abbrev pub dated : Inferred → Step
-dated (Timestamp t) = ([], header t 0 [])
-dated Nothing = ([], header (fin false 0 (pos 0)) 0 [])
-dated NotUtf8 = refuse 3 0
+abbrev pub dated : Result (Option Float) InferError → Step
+dated (Ok (Some t)) = ([], header t 0 [])
+dated (Ok None) = ([], header (fin false 0 (pos 0)) 0 [])
+dated (Err NotUtf8) = refuse 3 0
 
 -- the first n lines of the listing, opened: the PSV header once the table is open; where there is no column header yet, the next line, up to the 64th
 abbrev pub scanned : Float → ℕ → List ℕ → Opening → Step

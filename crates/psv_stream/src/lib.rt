@@ -12,20 +12,21 @@ ghost use Rattle.text_dump.specs.State.{turned, spoilt};
 ghost use Rattle.text_dump.specs.declared.Remembered.TheVariants as remembered;
 ghost use Rattle.text_dump.specs.Open.{open_of};
 ghost use Rattle.psv_stream.specs.Printed.{feed, refusal_text, dated, scanned};
+ghost use Rattle.psv_stream.specs.Refusal.{number, of_asns, of_element};
 ghost use Rattle.psv_stream.specs.Run.{header_bytes, Runs};
 ghost use Rattle.psv_stream.specs.Parts.{acts, is_head, front_of, Puts, PutElement, IsPlain, Copies, PutRoute, PutCopy, Fine, Begins, kept_len, Kept, BodyDoes, Keeps, phase_of, step_of, Ends, TooLong, Does, Steps, Heads};
 ghost use Rattle.psv_stream.specs.declared.Phase.TheVariants as phase;
 
-use elem::{Element, OptAsn};
+use elem::Element;
 use input::Front;
 use network::NetworkPrefix;
-use output::Put;
+use output::PutError;
 use packed::Packed;
-use path_text::AsnsPut;
-use psv::ElementPut;
-use text_dump::{Opened, State};
+use path_text::AsnsError;
+use psv::ElementError;
+use text_dump::{OpenError, State};
 use text_dump_line::{Line, PrefixText, RouteEntry};
-use timestamp::Inferred;
+use timestamp::InferError;
 
 // What is to come.
 #[derive(Clone, Copy)]
@@ -41,6 +42,61 @@ pub enum Phase {
     Stopped,
 }
 
+// Why the program stops (01, Where a call says no).
+#[derive(Debug, Clone, Copy, PartialEq, Eq)]
+enum Refusal {
+    UnreadableHeader,
+    NoColumns,
+    PathNotUtf8,
+    NoTimestamp,
+    SpoiltState,
+    UnreadableLine,
+    TooFewPlaces,
+    SpoiltElement,
+    ElementTooLong,
+    LineTooLong,
+}
+
+impl Refusal {
+    fn number(self) -> u64
+        ensures { result ≡ number self }
+    {
+        match self {
+            Refusal::UnreadableHeader => 1,
+            Refusal::NoColumns => 2,
+            Refusal::PathNotUtf8 => 3,
+            Refusal::NoTimestamp => 4,
+            Refusal::SpoiltState => 5,
+            Refusal::UnreadableLine => 6,
+            Refusal::TooFewPlaces => 7,
+            Refusal::SpoiltElement => 8,
+            Refusal::ElementTooLong => 9,
+            Refusal::LineTooLong => 13,
+        }
+    }
+}
+
+impl From<AsnsError> for Refusal {
+    ghost from_gives = { λ e r. r ≡ of_asns e };
+
+    fn from(e: AsnsError) -> Refusal {
+        match e {
+            AsnsError::TooFewPlaces => Refusal::TooFewPlaces,
+        }
+    }
+}
+
+impl From<ElementError> for Refusal {
+    ghost from_gives = { λ e r. r ≡ of_element e };
+
+    fn from(e: ElementError) -> Refusal {
+        match e {
+            ElementError::Spoilt => Refusal::SpoiltElement,
+            ElementError::TooShort => Refusal::ElementTooLong,
+        }
+    }
+}
+
 // What a line comes to: how many bytes are consumed, how many are written, and the new phase; or the last bytes that are written.
 #[derive(Clone, Copy)]
 enum Step {
@@ -49,12 +105,12 @@ enum Step {
     Starved,
 }
 
-fn refuse(number: u64, line: u64, out: &mut [u8]) -> usize
+fn refuse(why: Refusal, line: u64, out: &mut [u8]) -> usize
     requires { 65537 ≤ length out.old }
-    ensures { Puts (refusal_text number line) out.old out.new result }
+    ensures { Puts (refusal_text (number why) line) out.old out.new result }
 {
     let a = output::write_bytes(b"refused=", out, 0);
-    let b = decimal_display::write_u64(number, out, a);
+    let b = decimal_display::write_u64(why.number(), out, a);
     let c = output::write_bytes(b"\nline=", out, b);
     let d = decimal_display::write_u64(line, out, c);
     output::write_byte(b'\n', out, d)
@@ -66,8 +122,8 @@ fn end(phase: Phase, out: &mut [u8]) -> usize
     ensures { Ends phase out.old out.new result }
 {
     match phase {
-        Phase::Path => refuse(2, 0, out),
-        Phase::Header(_, _, _) => refuse(2, 0, out),
+        Phase::Path => refuse(Refusal::NoColumns, 0, out),
+        Phase::Header(_, _, _) => refuse(Refusal::NoColumns, 0, out),
         Phase::Body(_, _) => 0,
         Phase::Stopped => 0,
     }
@@ -78,9 +134,13 @@ fn too_long(phase: Phase, out: &mut [u8]) -> usize
     ensures { TooLong phase out.old out.new result }
 {
     match phase {
-        Phase::Path => refuse(13, 0, out),
-        Phase::Header(_, n, _) => refuse(13, std::num::wrapping_add_u64(n, 1), out),
-        Phase::Body(_, n) => refuse(13, std::num::wrapping_add_u64(n, 1), out),
+        Phase::Path => refuse(Refusal::LineTooLong, 0, out),
+        Phase::Header(_, n, _) => refuse(
+            Refusal::LineTooLong,
+            std::num::wrapping_add_u64(n, 1),
+            out,
+        ),
+        Phase::Body(_, n) => refuse(Refusal::LineTooLong, std::num::wrapping_add_u64(n, 1), out),
         Phase::Stopped => 0,
     }
 }
@@ -90,11 +150,9 @@ fn path_line(input: &[u8], end: usize, out: &mut [u8]) -> Step
     requires end_in_bounds { end ≤ length input.now }
     ensures { Does (dated (infer_timestamp (take end input.now))) input.now end out.old out.new result }
 {
-    let inferred = timestamp::infer_timestamp_from_path(&input[..end]);
-    match inferred {
-        Inferred::Timestamp(t) => Step::Took(end, 0, Phase::Header(t, 0, 0)),
-        Inferred::Nothing => Step::Took(end, 0, Phase::Header(0.0, 0, 0)),
-        Inferred::NotUtf8 => Step::Stops(refuse(3, 0, out)),
+    match timestamp::infer_timestamp_from_path(&input[..end]) {
+        Ok(date) => Step::Took(end, 0, Phase::Header(date.unwrap_or(0.0), 0, 0)),
+        Err(InferError::NotUtf8) => Step::Stops(refuse(Refusal::PathNotUtf8, 0, out)),
     }
 }
 
@@ -102,7 +160,7 @@ fn put_header(out: &mut [u8]) -> usize
     requires { 65537 ≤ length out.old }
     ensures { Puts (header_text ++ feed) out.old out.new result }
 {
-    let Put::Wrote(n) = psv::get_psv_header(out) else {
+    let Ok(n) = psv::get_psv_header(out) else {
         return 0;
     };
     output::write_byte(b'\n', out, n)
@@ -116,15 +174,19 @@ fn header_line(t: f64, number: u64, input: &[u8], end: usize, out: &mut [u8]) ->
 {
     let opened = State::open(&input[..end], t);
     match opened {
-        Opened::Table(state) => Step::Took(end, put_header(out), Phase::Body(state, number)),
-        Opened::Unreadable(line) => Step::Stops(refuse(1, line as u64, out)),
-        Opened::NoTimestamp => Step::Stops(refuse(4, 0, out)),
-        Opened::NoColumns => {
+        Ok(state) => Step::Took(end, put_header(out), Phase::Body(state, number)),
+        Err(OpenError::Unreadable(line)) => Step::Stops(refuse(
+            Refusal::UnreadableHeader,
+            line as u64,
+            out,
+        )),
+        Err(OpenError::NoTimestamp) => Step::Stops(refuse(Refusal::NoTimestamp, 0, out)),
+        Err(OpenError::NoColumns) => {
             let more = number < 64;
             if more {
                 return Step::Took(0, 0, Phase::Header(t, number, end));
             }
-            Step::Stops(refuse(2, 0, out))
+            Step::Stops(refuse(Refusal::NoColumns, 0, out))
         }
     }
 }
@@ -157,7 +219,11 @@ fn on_line(phase: Phase, input: &[u8], end: usize, out: &mut [u8]) -> Step
             let number = std::num::wrapping_add_u64(n, 1);
             header_line(t, number, input, end, out)
         }
-        Phase::Body(_, n) => Step::Stops(refuse(5, std::num::wrapping_add_u64(n, 1), out)),
+        Phase::Body(_, n) => Step::Stops(refuse(
+            Refusal::SpoiltState,
+            std::num::wrapping_add_u64(n, 1),
+            out,
+        )),
         Phase::Stopped => Step::Stops(0),
     }
 }
@@ -269,23 +335,13 @@ enum BodyStep {
 }
 
 // A route's line: how many bytes it has, or the number of its refusal.
-#[derive(Clone, Copy)]
-enum RoutePut {
-    Wrote(usize),
-    Refused(u64),
-}
-
 // An element's line and its line feed.
-fn put_element(e: Element, asns: &[u32], out: &mut [u8]) -> ElementPut
+fn put_element(e: Element, asns: &[u32], out: &mut [u8]) -> Result<usize, ElementError>
     requires { 65537 ≤ length out.old }
     ensures { PutElement e asns.now out.old out.new result }
 {
-    let put = psv::to_psv(e, asns, &mut out[..65536]);
-    match put {
-        ElementPut::Wrote(n) => ElementPut::Wrote(output::write_byte(b'\n', out, n)),
-        ElementPut::Spoilt => ElementPut::Spoilt,
-        ElementPut::TooShort => ElementPut::TooShort,
-    }
+    let end = psv::to_psv(e, asns, &mut out[..65536])?;
+    Ok(output::write_byte(b'\n', out, end))
 }
 
 // A route's line by the numbers of its path.
@@ -296,33 +352,20 @@ fn print_numbers(
     path: &[u8],
     asns: &mut [u32; 16384],
     out: &mut [u8],
-) -> RoutePut
+) -> Result<usize, Refusal>
     requires { 65537 ≤ length out.old }
     ensures { PutRoute state prefix entry (asns_of path.now) out.old out.new result }
 {
-    let AsnsPut::Wrote(count) = path_text::put_asns(path, asns) else {
-        return RoutePut::Refused(7);
-    };
+    let count = path_text::put_asns(path, asns)?;
     let origin_asn = text_dump::origin_asn(asns, count);
     let element = state.element(prefix, entry, count, origin_asn);
-    let put = put_element(element, asns, out);
-    match put {
-        ElementPut::Wrote(n) => RoutePut::Wrote(n),
-        ElementPut::Spoilt => RoutePut::Refused(8),
-        ElementPut::TooShort => RoutePut::Refused(9),
-    }
+    Ok(put_element(element, asns, out)?)
 }
 
 // Where a plain path's last number begins, and where its text ends.
-#[derive(Clone, Copy)]
-enum PlainPath {
-    Text(usize, usize),
-    Other,
-}
-
 // A path as routers print it: numbers of at most seven digits that begin with no 0, a space behind each, and one byte more (the origin). Its
 // text is then what the numbers print as. Of other paths nothing is said.
-fn plain_path(path: &[u8]) -> PlainPath
+fn plain_path(path: &[u8]) -> Option<(usize, usize)>
     ensures { IsPlain path.now result }
 {
     let mut at = 0;
@@ -334,44 +377,43 @@ fn plain_path(path: &[u8]) -> PlainPath
             break;
         }
         if 7 < n {
-            return PlainPath::Other;
+            return None;
         }
         if (w >> (8 * n as u64)) % 256 != 32 {
-            return PlainPath::Other;
+            return None;
         }
         let leading_zero = w % 256 == 48;
         if leading_zero {
-            return PlainPath::Other;
+            return None;
         }
         last = at;
         at = at + n + 1;
     }
     if at == 0 {
-        return PlainPath::Other;
+        return None;
     }
     if path.len() != at + 1 {
-        return PlainPath::Other;
+        return None;
     }
-    PlainPath::Text(last, at - 1)
+    Some((last, at - 1))
 }
 
 // The line of a route whose path is plain, with a line feed, behind what the line begins with; TooShort, and nothing written, where the path
 // is not plain or the line not surely short enough.
-fn copy_route(begin: &[u8], path: &[u8], e: Element, out: &mut [u8]) -> Put
+fn copy_route(begin: &[u8], path: &[u8], e: Element, out: &mut [u8]) -> Result<usize, PutError>
     requires { 65537 ≤ length out.old }
     ensures { Copies begin.now path.now e out.old out.new result }
 {
     if 16384 < path.len() {
-        return Put::TooShort;
+        return Err(PutError::TooShort);
     }
-    let PlainPath::Text(last, end) = plain_path(path) else {
-        return Put::TooShort;
+    let Some((last, end)) = plain_path(path) else {
+        return Err(PutError::TooShort);
     };
-    let Put::Wrote(n) = psv::put_texts(begin, &path[..end], &path[last..end], e, &mut out[..65536])
-    else {
-        return Put::TooShort;
+    let Ok(n) = psv::put_texts(begin, &path[..end], &path[last..end], e, &mut out[..65536]) else {
+        return Err(PutError::TooShort);
     };
-    Put::Wrote(output::write_byte(b'\n', out, n))
+    Ok(output::write_byte(b'\n', out, n))
 }
 
 // The same for a route under a prefix, if what its line begins with is printed.
@@ -382,16 +424,16 @@ fn copy_behind(
     entry: RouteEntry,
     path: &[u8],
     out: &mut [u8],
-) -> Put
+) -> Result<usize, PutError>
     requires in_bounds { 65537 ≤ length out.old }
     requires fine { Fine state (remembered.Valid prefix) }
     requires start_value { 0 < length start.now → start.now ≡ front_of state ++ between_text prefix }
     ensures { PutCopy state prefix entry (asns_of path.now) out.old out.new result }
 {
     if start.len() == 0 {
-        return Put::TooShort;
+        return Err(PutError::TooShort);
     }
-    let e = state.element(prefix, entry, 0, OptAsn::Nothing);
+    let e = state.element(prefix, entry, 0, None);
     copy_route(start, path, e, out)
 }
 
@@ -403,17 +445,17 @@ fn print_route(
     line: &[u8],
     asns: &mut [u32; 16384],
     out: &mut [u8],
-) -> RoutePut
+) -> Result<usize, Refusal>
     requires in_bounds { 65537 ≤ length out.old }
     requires fine { Fine state (remembered.Valid prefix) }
     requires start_value { 0 < length start.now → start.now ≡ front_of state ++ between_text prefix }
     ensures { PutRoute state prefix entry (asns_of (path_of entry line.now)) out.old out.new result }
 {
     let path = text_dump_line::path_of(line, entry);
-    let Put::Wrote(n) = copy_behind(start, state, prefix, entry, path, out) else {
+    let Ok(n) = copy_behind(start, state, prefix, entry, path, out) else {
         return print_numbers(state, prefix, entry, path, asns, out);
     };
-    RoutePut::Wrote(n)
+    Ok(n)
 }
 
 // What the lines under a prefix begin with is printed behind the front, if it is not yet and has room: how many bytes it has.
@@ -484,7 +526,7 @@ fn route_line(
     let start_len = start_of(start, front_len, prefix, kept);
     let put = print_route(&start[..start_len], state, prefix, entry, line, asns, out);
     match put {
-        RoutePut::Wrote(n) => BodyStep::Took(
+        Ok(n) => BodyStep::Took(
             position,
             n,
             Place {
@@ -494,7 +536,7 @@ fn route_line(
                 memory,
             },
         ),
-        RoutePut::Refused(n) => BodyStep::Stops(refuse(n, number, out)),
+        Err(why) => BodyStep::Stops(refuse(why, number, out)),
     }
 }
 
@@ -519,7 +561,7 @@ fn body_line(
     let position = line.len();
     let read = text_dump_line::line_of(line, columns);
     match read {
-        Line::Unreadable => BodyStep::Stops(refuse(6, number, out)),
+        Line::Unreadable => BodyStep::Stops(refuse(Refusal::UnreadableLine, number, out)),
         Line::Passed => {
             let memory = b.memory;
             let start_len = b.start_len;
@@ -572,7 +614,11 @@ fn take_body_line(
     match front {
         Front::Starved => BodyStep::Starved,
         Front::Nothing => BodyStep::Stops(0),
-        Front::TooLong => BodyStep::Stops(refuse(13, std::num::wrapping_add_u64(b.number, 1), out)),
+        Front::TooLong => BodyStep::Stops(refuse(
+            Refusal::LineTooLong,
+            std::num::wrapping_add_u64(b.number, 1),
+            out,
+        )),
         Front::Line(end) => body_line(start, front_len, state, b, &input[..end], asns, out),
     }
 }
@@ -665,7 +711,7 @@ fn put_start(state: State, out: &mut [u8]) -> usize
     let timestamp = state.timestamp;
     let peer_ip = state.peer_ip;
     let peer_asn = state.peer_asn;
-    let Put::Wrote(n) = psv::put_front(true, timestamp, peer_ip, peer_asn, out) else {
+    let Ok(n) = psv::put_front(true, timestamp, peer_ip, peer_asn, out) else {
         return 0;
     };
     n

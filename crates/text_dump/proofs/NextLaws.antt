@@ -1,4 +1,5 @@
 -- What next answers, case by case.
+use Rattle.std.specs.Prelude.{Option, Some, None, Result, Ok, Err}
 use Prim.Native.Nat.{ℕ, ◌-◌, ◌≤◌, ◌<◌}
 use mathlib.Core.Path.{◌≡◌, refl, sym, ap, subst, ◌∙◌}
 use mathlib.Core.Bool.{Bool, true, false, cond}
@@ -11,15 +12,15 @@ use Rattle.scan.specs.Lines.{line_end}
 use Rattle.scan.proofs.LineLaws.{line_end_inside, line_end_after}
 use Rattle.network.specs.declared.NetworkPrefix.{NetworkPrefix}
 use Rattle.elem.specs.declared.Element.{Element as Elem}
-use Rattle.elem.specs.declared.OptAsn.{OptAsn}
+use Rattle.network.specs.declared.Asn.{Asn}
 use Rattle.path_text.specs.Path.{asns_of, put_answer}
 use Rattle.path_text.proofs.PathLaws.{few_told, all_told, few_kept, all_laid}
 use Rattle.output.specs.Output.{front}
 use Rattle.text_dump_line.specs.Line.{line_of, path_of}
 use Rattle.text_dump_line.specs.declared.RouteEntry.{RouteEntry}
 use Rattle.text_dump_line.specs.declared.PrefixText.{PrefixText}
-use Rattle.path_text.specs.declared.AsnsPut.{AsnsPut}
-use Rattle.path_text.specs.declared.AsnsPut.TheVariants.{Wrote, TooFew}
+use Rattle.path_text.specs.declared.AsnsError.{AsnsError}
+use Rattle.path_text.specs.declared.AsnsError.TheVariants.{TooFewPlaces as FewPlaces}
 use Rattle.text_dump_line.specs.declared.Line.{Line}
 use Rattle.text_dump_line.specs.declared.Line.TheVariants.{Unreadable as UnreadableLine, Passed, Wrapped, Route}
 use Rattle.plain_reader.specs.Rules.{valid, replace}
@@ -33,8 +34,9 @@ use Rattle.text_dump.specs.Next.{Step, stepped, next, told, lent, Answers, at_ro
 use Rattle.text_dump.specs.declared.Remembered.{Remembered}
 use Rattle.text_dump.specs.declared.Remembered.TheVariants.{Nothing, Invalid, Valid}
 use Rattle.text_dump.specs.declared.State.{State}
-use Rattle.text_dump.specs.declared.Next.{Next}
-use Rattle.text_dump.specs.declared.Next.TheVariants.{Element, End, Spoilt, Unreadable, TooFewPlaces}
+use Rattle.text_dump.specs.declared.NextError.{NextError}
+use Rattle.elem.specs.declared.Element.{Element}
+use Rattle.text_dump.specs.declared.NextError.TheVariants.{Spoilt, TooFewPlaces, Unreadable}
 use Rattle.text_dump.proofs.StateLaws.{moved_cursor, cursor_moved, position_inside}
 
 -- the loop over the lines
@@ -112,22 +114,22 @@ pub stays : (σ : State) (n : ℕ) → stepped σ (refused n, cursor σ) ≡ (re
 stays σ n = ap (λ (s : State). (refused n, s)) (moved_cursor σ)
 
 -- a route under a valid prefix
-module _ (σ : State) (p : NetworkPrefix) (e : RouteEntry) (line : List ℕ) (j : ℕ) (old : List ℕ) (path : List ℕ) (g : path ≡ path_of e line) (put : AsnsPut) (new : List ℕ) (wrote : (put ≡ put_answer (asns_of path) old) × (new ≡ front (asns_of path) old)) where
+module _ (σ : State) (p : NetworkPrefix) (e : RouteEntry) (line : List ℕ) (j : ℕ) (old : List ℕ) (path : List ℕ) (g : path ≡ path_of e line) (put : Result ℕ AsnsError) (new : List ℕ) (wrote : (put ≡ put_answer (asns_of path) old) × (new ≡ front (asns_of path) old)) where
   abbrev step : Step
   step = stepped σ (at_route σ (length old) p (e, asns_of (path_of e line)) j)
 
   -- an answer, by the step over the path that was read
-  by_path : (z : Step) → stepped σ (at_route σ (length old) p (e, asns_of path) j) ≡ z → (r : Next) → told r new ≡ z → new ≡ lent z.0 old → Answers step old r new
+  by_path : (z : Step) → stepped σ (at_route σ (length old) p (e, asns_of path) j) ≡ z → (r : (State × Result (Option Element) NextError)) → told r new ≡ z → new ≡ lent z.0 old → Answers step old r new
   by_path z h r f k =
       let same : step ≡ z = ap (λ (l : List ℕ). stepped σ (at_route σ (length old) p (e, asns_of l) j)) (sym g) ∙ h in
       (f ∙ sym same, k ∙ ap (λ (y : Step). lent y.0 old) (sym same))
 
-  pub refuses_7 : put ≡ TooFew → Answers step old (TooFewPlaces σ) new
-  refuses_7 k =
+  pub refuses_7 : (e : AsnsError) → put ≡ Err e → Answers step old (σ, Err TooFewPlaces) new
+  refuses_7 FewPlaces k =
       let few : leb (length (asns_of path)) (length old) ≡ false = few_told (asns_of path) old (sym wrote.0 ∙ k) in
-      by_path (refused 7, σ) (rw few (stays σ 7)) (TooFewPlaces σ) refl (wrote.1 ∙ few_kept (asns_of path) old few)
+      by_path (refused 7, σ) (rw few (stays σ 7)) (σ, Err TooFewPlaces) refl (wrote.1 ∙ few_kept (asns_of path) old few)
 
-  module _ (n : ℕ) (k : put ≡ Wrote n) where
+  module _ (n : ℕ) (k : put ≡ Ok n) where
     fits : leb (length (asns_of path)) (length old) ≡ true
     fits = (all_told (asns_of path) old n (sym wrote.0 ∙ k)).0
 
@@ -140,27 +142,27 @@ module _ (σ : State) (p : NetworkPrefix) (e : RouteEntry) (line : List ℕ) (j 
     taken : take (length (asns_of path)) new ≡ asns_of path
     taken = rw laid (take_at (asns_of path) (drop (length (asns_of path)) old) (length (asns_of path)) refl)
 
-    pub yields : (o : OptAsn) → o ≡ origin_asn (take n new) → (y : Elem) → y ≡ element_of σ p e n o → (s : State) → s ≡ moved σ (record { at = j; remembered = valid p })
-        → Answers step old (Element s y) new
+    pub yields : (o : Option Asn) → o ≡ origin_asn (take n new) → (y : Elem) → y ≡ element_of σ p e n o → (s : State) → s ≡ moved σ (record { at = j; remembered = valid p })
+        → Answers step old ((s, Ok (Some y))) new
     yields o eo y ey s es =
         let made : Elem = element_of σ p e (length (asns_of path)) (origin_asn (asns_of path)) in
         let origin : o ≡ origin_asn (asns_of path) = eo ∙ ap origin_asn (ap (λ (k : ℕ). take k new) counted ∙ taken) in
-        let same : y ≡ made = ey ∙ ap (λ (x : OptAsn). element_of σ p e n x) origin ∙ ap (λ (k : ℕ). element_of σ p e k (origin_asn (asns_of path))) counted in
-        by_path (element (made, asns_of path), moved σ (record { at = j; remembered = valid p })) (rw fits) (Element s y)
-        (ap (λ (v : Elem). told (Element s v) new) same ∙ ap (λ (l : List ℕ). (element (made, l), s)) taken ∙ ap (λ (z : State). (element (made, asns_of path), z)) es)
+        let same : y ≡ made = ey ∙ ap (λ (x : Option Asn). element_of σ p e n x) origin ∙ ap (λ (k : ℕ). element_of σ p e k (origin_asn (asns_of path))) counted in
+        by_path (element (made, asns_of path), moved σ (record { at = j; remembered = valid p })) (rw fits) ((s, Ok (Some y)))
+        (ap (λ (v : Elem). told ((s, Ok (Some v))) new) same ∙ ap (λ (l : List ℕ). (element (made, l), s)) taken ∙ ap (λ (z : State). (element (made, asns_of path), z)) es)
         laid
 
 -- next's ways out, by where the loop has come
 module _ (σ : State) (t old : List ℕ) (b : Bool) (eb : b ≡ spoilt σ (length t)) where
-  answers : (z : Step) → next σ t (length old) ≡ z → (r : Next) (new : List ℕ) → Answers z old r new → Answers (next σ t (length old)) old r new
+  answers : (z : Step) → next σ t (length old) ≡ z → (r : (State × Result (Option Element) NextError)) (new : List ℕ) → Answers z old r new → Answers (next σ t (length old)) old r new
   answers z e r new h = (h.0 ∙ sym e, h.1 ∙ ap (λ (y : Step). lent y.0 old) (sym e))
 
   is_5 : b ≡ true → next σ t (length old) ≡ (refused 5, σ)
   unfolding next
   is_5 h = rw (← eb, h)
 
-  pub refuses_5 : b ≡ true → Answers (next σ t (length old)) old (Spoilt σ) old
-  refuses_5 h = answers (refused 5, σ) (is_5 h) (Spoilt σ) old (refl, refl)
+  pub refuses_5 : b ≡ true → Answers (next σ t (length old)) old ((σ, Err Spoilt)) old
+  refuses_5 h = answers (refused 5, σ) (is_5 h) ((σ, Err Spoilt)) old (refl, refl)
 
   module _ (h : b ≡ false) where
     pub in_part : σ.position ≤ length t
@@ -175,17 +177,17 @@ module _ (σ : State) (t old : List ℕ) (b : Bool) (eb : b ≡ spoilt σ (lengt
       by_loop : (z : ℕ → Answer WithAsns × Cursor NetworkPrefix) → ComesTo σ t z → next σ t (length old) ≡ stepped σ (z (length old))
       by_loop z e = steps ∙ ap (stepped σ) (e (length old))
 
-      pub says_end : length t ≤ i → (s : State) → s ≡ moved σ (record { at = length t; remembered = plain m }) → Answers (next σ t (length old)) old (End s) lies
+      pub says_end : length t ≤ i → (s : State) → s ≡ moved σ (record { at = length t; remembered = plain m }) → Answers (next σ t (length old)) old ((s, Ok None)) lies
       says_end l s f =
-          answers (end, moved σ (record { at = length t; remembered = plain m })) (by_loop (λ k. (end, record { at = length t; remembered = plain m })) (at_end_lem σ t i m came l)) (End s) lies
+          answers (end, moved σ (record { at = length t; remembered = plain m })) (by_loop (λ k. (end, record { at = length t; remembered = plain m })) (at_end_lem σ t i m came l)) ((s, Ok None)) lies
           (ap (λ (y : State). (end, y)) f, kept)
 
       module _ (l : i < length t) (e : ℕ) (here : e ≡ line_end t i) (y : Line) (c : y ≡ line_of σ.columns (take (e - i) (drop i t))) where
-        pub refuses_6 : y ≡ UnreadableLine → Answers (next σ t (length old)) old (Unreadable σ) lies
-        refuses_6 f = answers (refused 6, σ) (by_loop (λ k. (refused 6, cursor σ)) (unreadable σ t i m came l e here y c f inside) ∙ stays σ 6) (Unreadable σ) lies (refl, kept)
+        pub refuses_6 : y ≡ UnreadableLine → Answers (next σ t (length old)) old ((σ, Err Unreadable)) lies
+        refuses_6 f = answers (refused 6, σ) (by_loop (λ k. (refused 6, cursor σ)) (unreadable σ t i m came l e here y c f inside) ∙ stays σ 6) ((σ, Err Unreadable)) lies (refl, kept)
 
         pub at_route_lem : (x : PrefixText) (r : RouteEntry) → y ≡ Route r x → (n : Remembered) → plain n ≡ replace (text_of x) (plain m) → (p : NetworkPrefix) → n ≡ Valid p
-            → (a : Next) (new : List ℕ) → Answers (stepped σ (at_route σ (length lies) p (r, asns_of (path_of r (take (e - i) (drop i t)))) e)) lies a new
+            → (a : (State × Result (Option Element) NextError)) (new : List ℕ) → Answers (stepped σ (at_route σ (length lies) p (r, asns_of (path_of r (take (e - i) (drop i t)))) e)) lies a new
             → Answers (next σ t (length old)) old a new
         at_route_lem x r f n g p q a new w =
             answers (stepped σ (at_route σ (length old) p (r, asns_of (path_of r (take (e - i) (drop i t)))) e))

@@ -1,17 +1,18 @@
 -- Laws of the state and of what it remembers.
-use Prim.Native.Nat.{ℕ, zero, suc, ◌-◌, ◌≤◌, ◌<◌}
+use Rattle.std.specs.Prelude.{Some, None}
+use Prim.Native.Nat.{ℕ, min, ◌-◌, ◌≤◌, ◌<◌}
 use mathlib.Core.Path.{◌≡◌, refl, sym, ap, ◌∙◌}
 use mathlib.Core.Bool.{Bool, true, false, not, ◌||◌, true≢false}
 use mathlib.Core.List.{List, [], ◌∷◌}
 use native.Mathlib.Omega.{arith}
+use native.Mathlib.Numerals.{unary_clauses}
 use lib.ListN.{length, take, get_or}
 use lib.Seq.{take_all, take-length}
-use lib.Dec.{ltb}
-use borrow.Author.Tests.{ltb-false}
+use lib.Dec.{ltb, leb}
+use borrow.Author.Tests.{ltb-false, leb-true, leb-false}
 use Rattle.columns.specs.Columns.{are_rising}
 use Rattle.seconds.specs.Seconds.{is_timestamp}
 use Rattle.network.specs.declared.NetworkPrefix.{NetworkPrefix}
-use Rattle.elem.specs.declared.OptAsn.TheVariants.{Known, Nothing as NoAsn}
 use Rattle.text_dump_line.specs.declared.PrefixText.{PrefixText}
 use Rattle.text_dump_line.specs.declared.PrefixText.TheVariants.{Valid as ValidText}
 use Rattle.plain_reader.specs.Rules.{Remembered as Plain, nothing, invalid, valid, replace}
@@ -43,24 +44,8 @@ moved_cursor σ =
     (λ (m : Remembered). record { columns = σ.columns; peer_ip = σ.peer_ip; peer_asn = σ.peer_asn; timestamp = σ.timestamp; remembered = m; position = σ.position })
     (stored_plain σ.remembered)
 
-pub moved_to : (σ : State) (at : ℕ) (m : Remembered)
-    → record { columns = σ.columns; peer_ip = σ.peer_ip; peer_asn = σ.peer_asn; timestamp = σ.timestamp; remembered = m; position = at }
-    ≡ moved σ (record { at = at; remembered = plain m })
-moved_to σ at m =
-    ap
-    (λ (x : Remembered). record { columns = σ.columns; peer_ip = σ.peer_ip; peer_asn = σ.peer_asn; timestamp = σ.timestamp; remembered = x; position = at })
-    (sym (stored_plain m))
-
-pub valid_prefix_lem : (m : Remembered) (p : NetworkPrefix) → m ≡ Valid p → (r : Bool) → r ≡ valid_remembered (Valid p) → r ≡ valid_remembered m
-valid_prefix_lem m p e r h = h ∙ ap valid_remembered (sym e)
-
 pub replaces : (x : PrefixText) (p : NetworkPrefix) (m : Remembered) → x ≡ ValidText p → plain (Valid p) ≡ replace (text_of x) (plain m)
 replaces x p m e = rw e
-
-pub is_spoilt : (σ : State) (n : ℕ) (c t v : Bool) → c ≡ are_rising σ.columns → t ≡ is_timestamp σ.timestamp → v ≡ valid_remembered σ.remembered
-    → (ltb n σ.position || not c || not t || not v) ≡ spoilt σ n
-unfolding spoilt
-is_spoilt σ n c t v ec et ev = rw (ec, et, ev)
 
 -- of a state that is not spoilt: the position lies in the part
 pub first : (a b : Bool) → (a || b) ≡ false → a ≡ false
@@ -81,30 +66,26 @@ position_inside σ n h =
     ltb-false n σ.position (first a b (first (a || b) c (first (a || b || c) (not (valid_remembered σ.remembered)) h)))
 
 -- the origin
-pub no_origin : (asns : List ℕ) (n : ℕ) → n ≡ 0 → NoAsn ≡ origin_asn (take n asns)
+pub no_origin : (asns : List ℕ) (n : ℕ) → n ≡ 0 → None ≡ origin_asn (take n asns)
 unfolding origin_asn
 no_origin asns n h = rw h
 
-origin_at : (asns : List ℕ) (i : ℕ) → i < length asns → Known (record { 0 = get_or asns i 0 }) ≡ origin_asn (take (suc i) asns)
+pub last_of : (l : List ℕ) (x : ℕ) → 0 < length l → x ≡ get_or l (length l - 1) x → Some (record { 0 = x }) ≡ origin_asn l
 unfolding origin_asn
-origin_at [] i h = absurd (omega arith)
-origin_at (a ∷ l) zero h = refl
-origin_at (a ∷ []) (suc i) h = absurd (omega arith)
-origin_at (a ∷ b ∷ l) (suc i) h = origin_at (b ∷ l) i (omega arith)
+last_of [] x h e = absurd (omega arith)
+last_of (a ∷ []) x h e = ap (λ (n : ℕ). Some (record { 0 = n })) e
+last_of (a ∷ b ∷ l) x h e = last_of (b ∷ l) x (omega arith) (simp unary_clauses (simp unary_clauses at e))
 
-pub last_origin : (asns : List ℕ) (n : ℕ) → (n ≡ 0 → ⊥) → n ≤ length asns → Known (record { 0 = get_or asns (n - 1) 0 }) ≡ origin_asn (take n asns)
-last_origin asns n h g =
-    let i : n - 1 < length asns = omega arith in
-    let z : suc (n - 1) ≡ n = omega arith in
-    origin_at asns (n - 1) i ∙ ap (λ (k : ℕ). origin_asn (take k asns)) z
+-- as many as there are, at most
+pub taken : (asns : List ℕ) (n m : ℕ) → m ≡ min n (length asns) → take m asns ≡ take n asns
+taken asns n m e = go (leb n (length asns)) refl
+  where
+    go : (b : Bool) → leb n (length asns) ≡ b → take m asns ≡ take n asns
+    go true h = let le : n ≤ length asns = leb-true n (length asns) h in let k : m ≡ n = omega arith in rw k
+    go false h =
+        let gt : length asns < n = leb-false n (length asns) h in
+        let k : m ≡ length asns = omega arith in
+        rw k (take-length asns ∙ sym (take_all n asns (omega arith)))
 
--- beyond the list
-module _ (asns : List ℕ) (n : ℕ) (beyond : length asns < n) where
-  all_taken : take (length asns) asns ≡ take n asns
-  all_taken = take-length asns ∙ sym (take_all n asns (omega arith))
-
-  pub no_numbers : length asns ≡ 0 → NoAsn ≡ origin_asn (take n asns)
-  no_numbers h = no_origin asns (length asns) h ∙ ap origin_asn all_taken
-
-  pub last_of_all : (length asns ≡ 0 → ⊥) → Known (record { 0 = get_or asns (length asns - 1) 0 }) ≡ origin_asn (take n asns)
-  last_of_all h = last_origin asns (length asns) h (omega arith) ∙ ap origin_asn all_taken
+-- for origin_asn
+pub ruleset origin_laws = (no_origin, last_of, taken)

@@ -1,5 +1,5 @@
 -- Next (01, Reader and Where a call says no).
-use Rattle.std.specs.Prelude.{ℕ, ◌≡◌, cond, List, ◌++◌, length, take, drop, leb}
+use Rattle.std.specs.Prelude.{ℕ, ◌≡◌, cond, List, ◌++◌, length, take, drop, leb, Option, Some, None, Result, Ok, Err}
 use Rattle.network.specs.declared.NetworkPrefix.{NetworkPrefix}
 use Rattle.plain_reader.specs.Rules.{valid}
 use Rattle.plain_reader.specs.Calls.{Answer, element, end, refused}
@@ -7,8 +7,9 @@ use Rattle.plain_reader.specs.Cursor.{Cursor, next_at}
 use Rattle.text_dump.specs.State.{cursor, moved, spoilt}
 use Rattle.text_dump.specs.Rules.{Route, WithAsns, rules}
 use Rattle.text_dump.specs.declared.State.{State}
-use Rattle.text_dump.specs.declared.Next.{Next}
-use Rattle.text_dump.specs.declared.Next.TheVariants.{Element, End, Spoilt, Unreadable, TooFewPlaces}
+use Rattle.text_dump.specs.declared.NextError.{NextError}
+use Rattle.elem.specs.declared.Element.{Element}
+use Rattle.text_dump.specs.declared.NextError.TheVariants.{Spoilt, TooFewPlaces, Unreadable}
 
 -- an answer with the state that it leaves
 abbrev pub Step : Type 0
@@ -22,12 +23,12 @@ unfoldable pub next : State → List ℕ → ℕ → Step
 next σ t k = cond (spoilt σ (length t)) (refused 5, σ) (stepped σ (next_at (rules σ) t k (cursor σ)))
 
 -- the answers' numbers and values, with the lent list as next leaves it: an element's AS numbers are the first of it
-abbrev pub told : Next → List ℕ → Step
-told (Element σ e) asns = (element (e, take e.count asns), σ)
-told (End σ) asns = (end, σ)
-told (Spoilt σ) asns = (refused 5, σ)
-told (Unreadable σ) asns = (refused 6, σ)
-told (TooFewPlaces σ) asns = (refused 7, σ)
+abbrev pub told : (State × Result (Option Element) NextError) → List ℕ → Step
+told (σ, Ok (Some e)) asns = (element (e, take e.count asns), σ)
+told (σ, Ok None) asns = (end, σ)
+told (σ, Err Spoilt) asns = (refused 5, σ)
+told (σ, Err Unreadable) asns = (refused 6, σ)
+told (σ, Err TooFewPlaces) asns = (refused 7, σ)
 
 -- what next leaves in the lent list: an element's AS numbers from place 0 on and all other places as they were; all of it as it was in End and in refusals
 abbrev pub lent : Answer WithAsns → List ℕ → List ℕ
@@ -36,7 +37,7 @@ lent end old = old
 lent (refused n) old = old
 
 -- r answers a step, and leaves the lent list new, which was old
-abbrev pub Answers : Step → List ℕ → Next → List ℕ → Type 0
+abbrev pub Answers : Step → List ℕ → (State × Result (Option Element) NextError) → List ℕ → Type 0
 Answers z old r new = (told r new ≡ z) × (new ≡ lent z.0 old)
 
 -- what a route under the valid prefix p comes to, on a line that ends at j, with k AS places

@@ -1,6 +1,5 @@
 -- The calls as a reader of parts, for demand 3.
-use Rattle.std.specs.Prelude.{ℕ, List, Float}
-use Rattle.std.proofs.Math.Option.{Option}
+use Rattle.std.specs.Prelude.{ℕ, List, Float, Option}
 use Rattle.plain_reader.specs.Calls.{Reader}
 use Rattle.text_dump.specs.State.{plain, turned}
 use Rattle.text_dump.specs.Open.{open_of, accepted}

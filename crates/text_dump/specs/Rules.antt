@@ -1,10 +1,8 @@
 -- The rules of one reading, for the plain reader.
-use Rattle.std.specs.Prelude.{ℕ, true, cond, List, [], ◌∷◌, length, leb}
-use Rattle.std.proofs.Math.Option.{some, none}
+use Rattle.std.specs.Prelude.{ℕ, true, cond, List, [], ◌∷◌, length, leb, Option, Some, None}
 use Rattle.network.specs.declared.NetworkPrefix.{NetworkPrefix}
 use Rattle.elem.specs.declared.Element.{Element}
-use Rattle.elem.specs.declared.OptAsn.{OptAsn}
-use Rattle.elem.specs.declared.OptAsn.TheVariants.{Known, Nothing as NoAsn}
+use Rattle.network.specs.declared.Asn.{Asn}
 use Rattle.path_text.specs.Path.{asns_of}
 use Rattle.text_dump_line.specs.Line.{line_of, path_of}
 use Rattle.text_dump_line.specs.declared.RouteEntry.{RouteEntry}
@@ -33,13 +31,13 @@ said s (Wrapped p) = wrapped p
 said s (RouteLine e x) = route (text_of x) (e, asns_of (path_of e s))
 
 -- origin AS is the last AS number, or missing (01, Body lines)
-unfoldable pub origin_asn : List ℕ → OptAsn
-origin_asn [] = NoAsn
-origin_asn (n ∷ []) = Known (record { 0 = n })
+unfoldable pub origin_asn : List ℕ → Option Asn
+origin_asn [] = None
+origin_asn (n ∷ []) = Some (record { 0 = n })
 origin_asn (n ∷ m ∷ ns) = origin_asn (m ∷ ns)
 
 -- the element that a route yields under a prefix (01, Records)
-abbrev pub element_of : State → NetworkPrefix → RouteEntry → ℕ → OptAsn → Element
+abbrev pub element_of : State → NetworkPrefix → RouteEntry → ℕ → Option Asn → Element
 element_of σ p e count origin =
     record {
       announce = true;
@@ -69,5 +67,5 @@ rules σ =
       Places = ℕ;
       classify = λ s. said s (line_of σ.columns s);
       yield = λ p r. (element_of σ p r.0 (length r.1) (origin_asn r.1), r.1);
-      refusal = λ k r. cond (leb (length r.1) k) none (some 7);
+      refusal = λ k r. cond (leb (length r.1) k) None (Some 7);
     }

@@ -4,18 +4,17 @@
 ghost use Rattle.std.specs.Prelude.{◌≡◌, length, take};
 ghost use Rattle.plain_reader.specs.Rules.{replace};
 ghost use Rattle.text_dump.specs.State.{plain, valid_remembered, spoilt, turned, moved};
-ghost use Rattle.text_dump.specs.Open.{peer_ip, peer_asn, open_of, told as toldOpened};
+ghost use Rattle.text_dump.specs.Open.{peer_ip, peer_asn, open_of, of_header, told as toldOpened};
 ghost use Rattle.text_dump.specs.Rules.{text_of, origin_asn, element_of};
 ghost use Rattle.path_text.specs.Path.{asns_of};
 ghost use Rattle.text_dump_line.specs.Line.{path_of};
 ghost use Rattle.text_dump.specs.Next.{stepped, next as next_of, at_route, Answers};
 
-use columns::{Columns, ColumnsRead};
-use decimal::U32Read;
-use elem::{Element, OptAsn};
-use network::{AddressRead, Asn, IpAddr, NetworkPrefix};
-use path_text::AsnsPut;
-use text_dump_header::HeaderRead;
+use columns::Columns;
+use elem::Element;
+use network::{Asn, IpAddr, NetworkPrefix};
+use path_text::AsnsError;
+use text_dump_header::{HeaderError, TextDumpHeader};
 use text_dump_line::{Line, PrefixText, RouteEntry};
 
 #[derive(Clone, Copy)]
@@ -36,37 +35,44 @@ pub struct State {
 }
 
 // The state, or a refusal; that of an unreadable line has the line's number.
-#[derive(Clone, Copy)]
-pub enum Opened {
-    Table(State),
+#[derive(Debug, Clone, Copy, PartialEq, Eq)]
+pub enum OpenError {
     NoTimestamp,
     Unreadable(usize),
     NoColumns,
 }
 
-// The state behind the element's line or at the part's end; in a refusal the one that was handed in.
-#[derive(Clone, Copy)]
-pub enum Next {
-    Element(State, Element),
-    End(State),
-    Spoilt(State),
-    Unreadable(State),
-    TooFewPlaces(State),
+impl From<HeaderError> for OpenError {
+    ghost from_gives = { λ e r. r ≡ of_header e };
+
+    fn from(e: HeaderError) -> OpenError {
+        match e {
+            HeaderError::Unreadable(line) => OpenError::Unreadable(line),
+        }
+    }
 }
 
-fn peer_ip(id: AddressRead) -> IpAddr
+// The state behind the element's line or at the part's end; in a refusal the one that was handed in.
+#[derive(Debug, Clone, Copy, PartialEq, Eq)]
+pub enum NextError {
+    Spoilt,
+    Unreadable,
+    TooFewPlaces,
+}
+
+fn peer_ip(id: Option<IpAddr>) -> IpAddr
     ensures { result ≡ peer_ip id }
 {
-    let AddressRead::Address(a) = id else {
+    let Some(a) = id else {
         return IpAddr::V4(0);
     };
     a
 }
 
-fn peer_asn(number: U32Read) -> Asn
+fn peer_asn(number: Option<u32>) -> Asn
     ensures { result ≡ peer_asn number }
 {
-    let U32Read::Number(n) = number else {
+    let Some(n) = number else {
         return Asn(0);
     };
     Asn(n)
@@ -76,8 +82,7 @@ fn is_valid_remembered(m: Remembered) -> bool
     ensures { result ≡ valid_remembered m }
 {
     match m {
-        Remembered::Nothing => true,
-        Remembered::Invalid => true,
+        Remembered::Nothing | Remembered::Invalid => true,
         Remembered::Valid(p) => network::is_valid_prefix(p),
     }
 }
@@ -94,49 +99,34 @@ pub fn replaced(text: PrefixText, m: Remembered) -> Remembered
 }
 
 // The last of the first `count` numbers; of all of them where there are fewer.
-#[tactic(auto, using(crate::proofs::StateLaws::no_origin, crate::proofs::StateLaws::last_origin))]
-pub fn origin_asn(asns: &[u32], count: usize) -> OptAsn
+#[tactic(auto, using(crate::proofs::StateLaws::origin_laws))]
+pub fn origin_asn(asns: &[u32], count: usize) -> Option<Asn>
     ensures { result ≡ origin_asn (take count asns.now) }
 {
-    if count == 0 {
-        return OptAsn::Nothing;
+    match asns[..count.min(asns.len())].last() {
+        Some(asn) => Some(Asn(*asn)),
+        None => None,
     }
-    if count <= asns.len() {
-        return OptAsn::Known(Asn(asns[count - 1]));
-    }
-    if asns.len() == 0 {
-        return OptAsn::Nothing;
-    }
-    OptAsn::Known(Asn(asns[asns.len() - 1]))
 }
 
 impl State {
+    #[tactic(auto, unfolding(crate::specs::State::spoilt))]
     pub fn is_spoilt(self, part_len: usize) -> bool
         ensures { result ≡ spoilt self part_len }
     {
-        let columns = self.columns;
-        let timestamp = self.timestamp;
-        let remembered = self.remembered;
-        (part_len < self.position)
-            | !columns::are_rising(columns)
-            | !seconds::is_timestamp(timestamp)
-            | !is_valid_remembered(remembered)
+        part_len < self.position
+            || !columns::are_rising(self.columns)
+            || !seconds::is_timestamp(self.timestamp)
+            || !is_valid_remembered(self.remembered)
     }
 
     pub fn moved(self, position: usize, remembered: Remembered) -> State
         ensures { result ≡ moved self (record { at = position; remembered = plain remembered }) }
     {
-        let columns = self.columns;
-        let peer_ip = self.peer_ip;
-        let peer_asn = self.peer_asn;
-        let timestamp = self.timestamp;
         State {
-            columns,
-            peer_ip,
-            peer_asn,
-            timestamp,
             remembered,
             position,
+            ..self
         }
     }
 
@@ -145,60 +135,41 @@ impl State {
         prefix: NetworkPrefix,
         entry: RouteEntry,
         count: usize,
-        origin_asn: OptAsn,
+        origin_asn: Option<Asn>,
     ) -> Element
         ensures { result ≡ element_of self prefix entry count origin_asn }
     {
-        let timestamp = self.timestamp;
-        let peer_ip = self.peer_ip;
-        let peer_asn = self.peer_asn;
-        let next_hop = entry.next_hop;
-        let origin = entry.origin;
-        let local_pref = entry.local_pref;
-        let metric = entry.metric;
         Element {
             announce: true,
-            timestamp,
-            peer_ip,
-            peer_asn,
+            timestamp: self.timestamp,
+            peer_ip: self.peer_ip,
+            peer_asn: self.peer_asn,
             prefix,
-            next_hop,
+            next_hop: entry.next_hop,
             count,
             origin_asn,
-            origin,
-            local_pref,
-            metric,
+            origin: entry.origin,
+            local_pref: entry.local_pref,
+            metric: entry.metric,
         }
     }
 
-    pub fn open(text: &[u8], timestamp: f64) -> Opened
+    pub fn open(text: &[u8], timestamp: f64) -> Result<State, OpenError>
         ensures { toldOpened result ≡ open_of timestamp text.now }
     {
         if !seconds::is_timestamp(timestamp) {
-            return Opened::NoTimestamp;
+            return Err(OpenError::NoTimestamp);
         }
-        let read = text_dump_header::parse_header(text);
-        match read {
-            HeaderRead::Unreadable(n) => Opened::Unreadable(n),
-            HeaderRead::Header(header, position) => {
-                let found = header.columns;
-                let ColumnsRead::Found(columns) = found else {
-                    return Opened::NoColumns;
-                };
-                let router_id = header.router_id;
-                let local_as = header.local_as;
-                let peer_ip = peer_ip(router_id);
-                let peer_asn = peer_asn(local_as);
-                Opened::Table(State {
-                    columns,
-                    peer_ip,
-                    peer_asn,
-                    timestamp,
-                    remembered: Remembered::Nothing,
-                    position,
-                })
-            }
-        }
+        let (header, position) = text_dump_header::parse_header(text)?;
+        let columns = header.columns.ok_or(OpenError::NoColumns)?;
+        Ok(State {
+            columns,
+            peer_ip: peer_ip(header.router_id),
+            peer_asn: peer_asn(header.local_as),
+            timestamp,
+            remembered: Remembered::Nothing,
+            position,
+        })
     }
 
     // The element of a route that a line has, whose end this is, if its AS numbers have places.
@@ -209,36 +180,38 @@ impl State {
         line: &[u8],
         end: usize,
         asns: &mut [u32],
-    ) -> Next
+    ) -> (State, Result<Option<Element>, NextError>)
         ensures { Answers (stepped self (at_route self (length asns.old) prefix (entry, asns_of (path_of entry line.now)) end)) asns.old result asns.new }
     {
         let path = text_dump_line::path_of(line, entry);
-        let AsnsPut::Wrote(count) = path_text::put_asns(path, asns) else {
-            return Next::TooFewPlaces(self);
+        let Ok(count) = path_text::put_asns(path, asns) else {
+            return (self, Err(NextError::TooFewPlaces));
         };
         let origin_asn = origin_asn(asns, count);
         let element = self.element(prefix, entry, count, origin_asn);
-        Next::Element(self.moved(end, Remembered::Valid(prefix)), element)
+        (
+            self.moved(end, Remembered::Valid(prefix)),
+            Ok(Some(element)),
+        )
     }
 
     // Passes lines until one yields. An element's AS numbers stand in the lent list from place 0 on. The loop is not a function of its own: what it
     // comes to would cross through an enum whose variants do not lie alike.
-    pub fn next(self, part: &[u8], asns: &mut [u32]) -> Next
+    pub fn next(self, part: &[u8], asns: &mut [u32]) -> (State, Result<Option<Element>, NextError>)
         ensures { Answers (next_of self part.now (length asns.old)) asns.old result asns.new }
     {
         if self.is_spoilt(part.len()) {
-            return Next::Spoilt(self);
+            return (self, Err(NextError::Spoilt));
         }
         let mut remembered = self.remembered;
         let mut at = self.position;
+        // Stays a while: each line begins where the last one ended, which no range says.
         while at < part.len() {
-            let columns = self.columns;
             let start = at;
             at = scan::line_end(part, start);
-            let line = text_dump_line::line_of(&part[start..at], columns);
-            match line {
+            match text_dump_line::line_of(&part[start..at], self.columns) {
                 Line::Unreadable => {
-                    return Next::Unreadable(self);
+                    return (self, Err(NextError::Unreadable));
                 }
                 Line::Passed => {}
                 Line::Wrapped(prefix) => {
@@ -252,14 +225,13 @@ impl State {
                 }
             }
         }
-        Next::End(self.moved(part.len(), remembered))
+        (self.moved(part.len(), remembered), Ok(None))
     }
 
     // To the next part.
     pub fn turn(self) -> State
         ensures { result ≡ turned self }
     {
-        let remembered = self.remembered;
-        self.moved(0, remembered)
+        self.moved(0, self.remembered)
     }
 }

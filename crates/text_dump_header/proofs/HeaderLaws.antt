@@ -1,4 +1,5 @@
 -- Laws of the scan over the header's lines.
+use Rattle.std.specs.Prelude.{Option, Some, None, Result, Ok, Err}
 use Prim.Native.Nat.{ℕ, zero, suc, ◌+◌, ◌-◌, ◌≤◌}
 use mathlib.Core.Path.{◌≡◌, refl, sym, ap, ◌∙◌}
 use mathlib.Core.Bool.{Bool, true, false, cond, not}
@@ -12,43 +13,43 @@ use Rattle.utf8.specs.Utf8.{readable}
 use Rattle.text.specs.White.{trim_end}
 use Rattle.columns.specs.Columns.{column_header}
 use Rattle.columns.specs.declared.Columns.{Columns}
-use Rattle.columns.specs.declared.ColumnsRead.{ColumnsRead}
-use Rattle.columns.specs.declared.ColumnsRead.TheVariants.{Found, Nothing as NoColumns}
 use Rattle.text_dump_header.specs.Preamble.{preamble_line}
 use Rattle.text_dump_header.specs.Header.{columns_of, is_found, through, unreadable_line, preamble_of, last_columns, total, header_of, header_from, missing, header}
 use Rattle.text_dump_header.specs.declared.Preamble.{Preamble}
-use Rattle.text_dump_header.specs.declared.HeaderRead.TheVariants.{Header, Unreadable}
+use Rattle.text_dump_header.specs.declared.HeaderError.{HeaderError}
+use Rattle.text_dump_header.specs.declared.TextDumpHeader.{TextDumpHeader}
+use Rattle.text_dump_header.specs.declared.HeaderError.TheVariants.{Unreadable}
 
 pub scan_starts : (s : List ℕ) → header s ≡ header_from 0 missing 0 (through (take 64 (lines (drop 0 s))))
 unfolding header
 scan_starts s = refl
 
-pub last_passed : (l : List ℕ) (ls : List (List ℕ)) → columns_of l ≡ NoColumns → last_columns (l ∷ ls) ≡ last_columns ls
+pub last_passed : (l : List ℕ) (ls : List (List ℕ)) → columns_of l ≡ None → last_columns (l ∷ ls) ≡ last_columns ls
 unfolding last_columns
 last_passed l [] e = e
 last_passed l (m ∷ ls) e = refl
 
 -- a readable line, which is the last one met, or is no column header
 module _ (n : ℕ) (p : Preamble) (at : ℕ) (l : List ℕ) where
-  last_line : (c : ColumnsRead) → readable l ≡ true → columns_of l ≡ c → header_from n p at (l ∷ []) ≡ Header (header_of (preamble_line (trim_end l) p) c) (at + length l)
+  last_line : (c : Option Columns) → readable l ≡ true → columns_of l ≡ c → header_from n p at (l ∷ []) ≡ Ok (header_of (preamble_line (trim_end l) p) c, at + length l)
   unfolding header_from unreadable_line preamble_of last_columns total
   last_line c r e = let z : length l + 0 ≡ length l = omega arith in rw (r, e, z)
 
-  next_line : (ls : List (List ℕ)) → readable l ≡ true → columns_of l ≡ NoColumns
+  next_line : (ls : List (List ℕ)) → readable l ≡ true → columns_of l ≡ None
       → header_from n p at (l ∷ ls) ≡ header_from (n + 1) (preamble_line (trim_end l) p) (at + length l) ls
   unfolding header_from unreadable_line preamble_of total
   next_line ls r e = let z : at + (length l + total ls) ≡ at + length l + total ls = omega arith in rw (r, last_passed l ls e, z)
 
 -- n lines are met, which said p; the next begins at the place at
 module _ (s : List ℕ) (n at : ℕ) (p : Preamble) (inv : header s ≡ header_from n p at (through (take (64 - n) (lines (drop at s))))) where
-  none_left : take (64 - n) (lines (drop at s)) ≡ [] → Header (header_of p NoColumns) at ≡ header s
+  none_left : take (64 - n) (lines (drop at s)) ≡ [] → Ok (header_of p None, at) ≡ header s
   unfolding header_from through unreadable_line preamble_of last_columns total
-  none_left e = let z : at ≡ at + 0 = omega arith in sym (inv ∙ rw e (ap (Header (header_of p NoColumns)) (sym z)))
+  none_left e = let z : at ≡ at + 0 = omega arith in sym (inv ∙ rw e (ap (λ (k : ℕ). let r : Result (TextDumpHeader × ℕ) HeaderError = Ok (header_of p None, k) in r) (sym z)))
 
-  pub scanned : n ≡ 64 → Header (header_of p NoColumns) at ≡ header s
+  pub scanned : n ≡ 64 → Ok (header_of p None, at) ≡ header s
   scanned e = none_left (rw e)
 
-  pub text_ends : at ≡ length s → Header (header_of p NoColumns) at ≡ header s
+  pub text_ends : at ≡ length s → Ok (header_of p None, at) ≡ header s
   text_ends e = none_left (rw (no_lines s at (omega arith)) (take_none (64 - n)))
     where
       take_none : (k : ℕ) → take {A = List ℕ} k [] ≡ []
@@ -82,15 +83,15 @@ module _ (s : List ℕ) (n at : ℕ) (p : Preamble) (inv : header s ≡ header_f
     first = inv ∙ rw split
 
     module _ (r : Bool) (qr : r ≡ readable line) where
-      pub line_unreadable : not r ≡ true → Unreadable (n + 1) ≡ header s
+      pub line_unreadable : not r ≡ true → Err (Unreadable (n + 1)) ≡ header s
       unfolding header_from unreadable_line
       line_unreadable f = sym (first ∙ go (is_found (columns_of line)))
         where
-          go : (z : Bool) → header_from n p at (cond z (line ∷ []) (line ∷ through later)) ≡ Unreadable (n + 1)
+          go : (z : Bool) → header_from n p at (cond z (line ∷ []) (line ∷ through later)) ≡ Err (Unreadable (n + 1))
           go true = rw (← qr, not-true r f)
           go false = rw (← qr, not-true r f)
 
-      module _ (y : not r ≡ false) (t : List ℕ) (qt : t ≡ trim_end line) (p' : Preamble) (qp : p' ≡ preamble_line t p) (c : ColumnsRead) (qc : c ≡ column_header t) where
+      module _ (y : not r ≡ false) (t : List ℕ) (qt : t ≡ trim_end line) (p' : Preamble) (qp : p' ≡ preamble_line t p) (c : Option Columns) (qc : c ≡ column_header t) where
         ok : readable line ≡ true
         ok = sym qr ∙ not-false r y
 
@@ -104,17 +105,17 @@ module _ (s : List ℕ) (n at : ℕ) (p : Preamble) (inv : header s ≡ header_f
         to_end : at + length line ≡ end
         to_end = omega (arith, size, line_order)
 
-        pub line_columns : (x : Columns) → c ≡ Found x → Header (header_of p' c) end ≡ header s
+        pub line_columns : (x : Columns) → c ≡ Some x → Ok (header_of p' c, end) ≡ header s
         line_columns x f =
-            let found : columns_of line ≡ Found x = columns_are ∙ f in
-            sym (first ∙ rw found (last_line n p at line (Found x) ok found ∙ rw (said, to_end, f)))
+            let found : columns_of line ≡ Some x = columns_are ∙ f in
+            sym (first ∙ rw found (last_line n p at line (Some x) ok found ∙ rw (said, to_end, f)))
 
-        pub line_passed : c ≡ NoColumns → header s ≡ header_from (n + 1) p' end (through later)
+        pub line_passed : c ≡ None → header s ≡ header_from (n + 1) p' end (through later)
         line_passed f =
-            let found : columns_of line ≡ NoColumns = columns_are ∙ f in
+            let found : columns_of line ≡ None = columns_are ∙ f in
             first ∙ rw found (next_line n p at line (through later) ok found ∙ rw (said, to_end))
 
 -- the answer by what the ways out of the loop yield
-pub joined : (s : List ℕ) (p q : Preamble) (c d : ColumnsRead) (a b : ℕ) → p ≡ q → c ≡ d → a ≡ b → Header (header_of q d) b ≡ header s
-    → Header (header_of p c) a ≡ header s
+pub joined : (s : List ℕ) (p q : Preamble) (c d : Option Columns) (a b : ℕ) → p ≡ q → c ≡ d → a ≡ b → Ok (header_of q d, b) ≡ header s
+    → Ok (header_of p c, a) ≡ header s
 joined s p q c d a b e f g h = rw (e, f, g) h

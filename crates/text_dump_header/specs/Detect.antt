@@ -1,14 +1,12 @@
 -- Detection (01, Dates, detection, PSV, paths).
-use Rattle.std.specs.Prelude.{ℕ, Bool, true, false, ◌&&◌, ◌||◌, List, take, get_or, leb}
+use Rattle.std.specs.Prelude.{ℕ, Bool, true, false, ◌&&◌, ◌||◌, List, take, get_or, leb, Option, Some, None}
 use Rattle.scan.specs.Ascii.{ascii}
 use Rattle.scan.specs.Search.{find_in}
-use Rattle.scan.specs.declared.Found.{Found}
-use Rattle.scan.specs.declared.Found.TheVariants.{At, Nothing}
 use Rattle.utf8.specs.Utf8.{readable}
 
-abbrev pub is_found : Found → Bool
-is_found (At k) = true
-is_found Nothing = false
+abbrev pub is_found : Option ℕ → Bool
+is_found (Some k) = true
+is_found None = false
 
 unfoldable pub contains : List ℕ → List ℕ → Bool
 contains s p = is_found (find_in s p)

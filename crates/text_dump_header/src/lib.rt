@@ -2,47 +2,38 @@
 #![tactic(auto)]
 
 ghost use Rattle.std.specs.Prelude.{◌≡◌, take};
-ghost use Rattle.text_dump_header.specs.Detect.{contains as containsOf, is_graphic, detect};
+ghost use Rattle.text_dump_header.specs.Detect.{contains as containsOf, detect};
 ghost use Rattle.text_dump_header.specs.Preamble.{up_to, reads, version_text, router_in, router_text, local_as_text, preamble_line};
 ghost use Rattle.text_dump_header.specs.Header.{header_of, header};
 ghost use Rattle.decimal.specs.Decimal.{read_u32, read_u64};
 ghost use Rattle.network.specs.Address.{read_address};
 
-use columns::ColumnsRead;
-use decimal::{U32Read, U64Read};
-use network::AddressRead;
-use scan::Found;
+use columns::Columns;
+use network::IpAddr;
 
 // The first 128 bytes.
+#[tactic(auto, using(crate::proofs::DetectLaws::first_bytes))]
 fn head(s: &[u8]) -> &[u8]
     ensures { result.now ≡ take 128 s.now }
 {
-    if s.len() < 128 { s } else { &s[..128] }
+    &s[..s.len().min(128)]
 }
 
+#[tactic(auto, unfolding(crate::specs::Detect::contains))]
 fn contains(s: &[u8], p: &[u8]) -> bool
     ensures { result ≡ containsOf s.now p.now }
 {
-    let Found::At(_) = scan::find(s, p) else {
-        return false;
-    };
-    true
-}
-
-fn is_graphic(b: u8) -> bool
-    ensures { result ≡ is_graphic b }
-{
-    (0x21 <= b) & (b <= 0x7E)
+    matches!(scan::find(s, p), Some(_))
 }
 
 pub fn detect_text_dump(bytes: &[u8]) -> bool
     ensures { result ≡ detect bytes.now }
 {
     let s = head(bytes);
-    if s.len() == 0 {
+    let [first, ..] = s else {
         return false;
-    }
-    is_graphic(s[0])
+    };
+    first.is_ascii_graphic()
         & utf8::is_readable(s)
         & (contains(s, b"BGP table") | contains(s, b"Next Hop") | contains(s, b"Status codes:"))
 }
@@ -51,61 +42,61 @@ pub fn detect_text_dump(bytes: &[u8]) -> bool
 fn up_to<'a>(s: &'a [u8], p: &[u8]) -> &'a [u8]
     ensures { result.now ≡ up_to p.now s.now }
 {
-    let Found::At(k) = scan::find(s, p) else {
+    let Some(k) = scan::find(s, p) else {
         return s;
     };
     &s[..k]
 }
 
 // The version that a line gives, else the old one.
-fn table_version(t: &[u8], old: U64Read) -> U64Read
+fn table_version(t: &[u8], old: Option<u64>) -> Option<u64>
     ensures { result ≡ reads read_u64 (version_text t.now) old }
 {
     if !scan::starts_with(t, b"BGP table version is ") {
         return old;
     }
     let rest = &t[21..];
-    let Found::At(k) = scan::find(rest, b",") else {
+    let Some(k) = scan::find(rest, b",") else {
         return old;
     };
     decimal::read_u64(text::trim(&rest[..k]))
 }
 
-fn router_in(s: &[u8], old: AddressRead) -> AddressRead
+fn router_in(s: &[u8], old: Option<IpAddr>) -> Option<IpAddr>
     ensures { result ≡ reads read_address (router_in s.now) old }
 {
-    let Found::At(k) = scan::find(s, b"local router ID is ") else {
+    let Some(k) = scan::find(s, b"local router ID is ") else {
         return old;
     };
     let marked = &s[k..];
     let id = up_to(&marked[19..], b"local router ID is ");
-    let Found::At(end) = scan::find(id, b",") else {
+    let Some(end) = scan::find(id, b",") else {
         return old;
     };
     network::read_address(text::trim(&id[..end]))
 }
 
-fn router_id(t: &[u8], old: AddressRead) -> AddressRead
+fn router_id(t: &[u8], old: Option<IpAddr>) -> Option<IpAddr>
     ensures { result ≡ reads read_address (router_text t.now) old }
 {
     if !scan::starts_with(t, b"BGP table version is ") {
         return old;
     }
     let rest = &t[21..];
-    let Found::At(k) = scan::find(rest, b",") else {
+    let Some(k) = scan::find(rest, b",") else {
         return old;
     };
     let comma = &rest[k..];
     router_in(&comma[1..], old)
 }
 
-fn local_as(t: &[u8], old: U32Read) -> U32Read
+fn local_as(t: &[u8], old: Option<u32>) -> Option<u32>
     ensures { result ≡ reads read_u32 (local_as_text t.now) old }
 {
     if !scan::starts_with(t, b"Default local pref") {
         return old;
     }
-    let Found::At(k) = scan::find(t, b"local AS ") else {
+    let Some(k) = scan::find(t, b"local AS ") else {
         return old;
     };
     let marked = &t[k..];
@@ -114,9 +105,9 @@ fn local_as(t: &[u8], old: U32Read) -> U32Read
 
 #[derive(Clone, Copy)]
 pub struct Preamble {
-    pub table_version: U64Read,
-    pub router_id: AddressRead,
-    pub local_as: U32Read,
+    pub table_version: Option<u64>,
+    pub router_id: Option<IpAddr>,
+    pub local_as: Option<u32>,
 }
 
 fn read_preamble(t: &[u8], p: Preamble) -> Preamble
@@ -137,20 +128,19 @@ fn read_preamble(t: &[u8], p: Preamble) -> Preamble
 
 #[derive(Clone, Copy)]
 pub struct TextDumpHeader {
-    pub table_version: U64Read,
-    pub router_id: AddressRead,
-    pub local_as: U32Read,
-    pub columns: ColumnsRead,
+    pub table_version: Option<u64>,
+    pub router_id: Option<IpAddr>,
+    pub local_as: Option<u32>,
+    pub columns: Option<Columns>,
 }
 
 // The header and the position behind its last line, or the number of an unreadable line.
-#[derive(Clone, Copy)]
-pub enum HeaderRead {
-    Header(TextDumpHeader, usize),
+#[derive(Debug, Clone, Copy, PartialEq, Eq)]
+pub enum HeaderError {
     Unreadable(usize),
 }
 
-fn header_of(p: Preamble, columns: ColumnsRead) -> TextDumpHeader
+fn header_of(p: Preamble, columns: Option<Columns>) -> TextDumpHeader
     ensures { result ≡ header_of p columns }
 {
     let table_version = p.table_version;
@@ -164,37 +154,37 @@ fn header_of(p: Preamble, columns: ColumnsRead) -> TextDumpHeader
     }
 }
 
-pub fn parse_header(text: &[u8]) -> HeaderRead
+pub fn parse_header(text: &[u8]) -> Result<(TextDumpHeader, usize), HeaderError>
     ensures { result ≡ header text.now }
 {
     let mut p = Preamble {
-        table_version: U64Read::Nothing,
-        router_id: AddressRead::Nothing,
-        local_as: U32Read::Nothing,
+        table_version: None,
+        router_id: None,
+        local_as: None,
     };
     let mut at = 0;
     let mut met: usize = 0;
     let columns = 'lines: loop {
         let all_scanned = met == 64;
         if all_scanned {
-            break 'lines ColumnsRead::Nothing;
+            break 'lines None;
         }
         if at == text.len() {
-            break 'lines ColumnsRead::Nothing;
+            break 'lines None;
         }
         let end = scan::line_end(text, at);
         let line = &text[at..end];
         met += 1;
         if !utf8::is_readable(line) {
-            return HeaderRead::Unreadable(met);
+            return Err(HeaderError::Unreadable(met));
         }
         let t = text::trim_end(line);
         p = read_preamble(t, p);
         at = end;
         let c = columns::parse_column_header(t);
-        if let ColumnsRead::Found(_) = c {
+        if let Some(_) = c {
             break 'lines c;
         }
     };
-    HeaderRead::Header(header_of(p, columns), at)
+    Ok((header_of(p, columns), at))
 }

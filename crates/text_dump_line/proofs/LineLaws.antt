@@ -1,11 +1,12 @@
 -- Laws of the columns of a line, and of what it says by them.
-use Prim.Native.Nat.{ℕ, zero, suc, ◌+◌, ◌-◌, ◌≤◌, ◌<◌}
+use Rattle.std.specs.Prelude.{Option, Some, None}
+use Prim.Native.Nat.{ℕ, ◌-◌, ◌≤◌, ◌<◌}
 use mathlib.Core.Path.{◌≡◌, refl, sym, ap, ◌∙◌}
 use mathlib.Core.Bool.{Bool, true, false, cond, not, ◌&&◌, false≢true}
 use mathlib.Core.List.{List, [], ◌∷◌, ◌++◌, flatten}
 use native.Mathlib.Omega.{arith}
-use lib.ListN.{length, get_or, take, drop, length-drop, drop_of_length-le}
-use lib.Seq.{take_all, take-nil, take_at, drop-append-le}
+use lib.ListN.{length, get_or, take, drop, length-drop}
+use lib.Seq.{take_all, take_at, drop-append-le}
 use lib.Dec.{leb, ltb, eqb}
 use borrow.Author.Tests.{le-leb, lt-leb, leb-true, ltb-true, eqb-true, eqb-false, ne_eqb, not-true, not-false}
 use Rattle.utf8.specs.Utf8.{is_one, within, all, chars, readable}
@@ -18,28 +19,19 @@ use Rattle.utf8.proofs.EdgeLaws.{ascii_slice}
 use Rattle.text.proofs.TrimLaws.{dropped, trim_end_part, trim_end_all}
 use Rattle.text.proofs.WhiteLaws.{front_visible, start_stop}
 use Rattle.decimal.specs.Decimal.{read_u32}
-use Rattle.decimal.specs.declared.U32Read.{U32Read}
 use Rattle.network.specs.Address.{read_address}
 use Rattle.network.specs.Prefix.{read_prefix}
 use Rattle.network.specs.declared.IpAddr.{IpAddr}
 use Rattle.network.specs.declared.NetworkPrefix.{NetworkPrefix}
-use Rattle.network.specs.declared.AddressRead.{AddressRead}
-use Rattle.network.specs.declared.AddressRead.TheVariants.{Address, Nothing as NoAddress}
-use Rattle.network.specs.declared.PrefixRead.{PrefixRead}
-use Rattle.network.specs.declared.PrefixRead.TheVariants.{Prefix, Nothing as NoPrefix}
-use Rattle.columns.specs.Columns.{are_rising, shift_left}
+use Rattle.columns.specs.Columns.{are_rising}
 use Rattle.columns.specs.declared.Columns.{Columns}
-use Rattle.columns.specs.declared.ColumnsRead.{ColumnsRead}
-use Rattle.columns.specs.declared.ColumnsRead.TheVariants.{Found, Nothing as NoColumns}
 use Rattle.path_text.specs.Path.{origin_of}
-use Rattle.text_dump_line.specs.Line.{slice, column, displayed, prefix_as, prefix_text, path_start, entry_of, path_of, route_to, route_of, route_if, or_else, any_route, wrapped_of, line_from, line_of}
+use Rattle.text_dump_line.specs.Line.{slice, column, displayed, prefix_as, prefix_text, path_start, entry_of, path_of, route_to, route_of, any_route, wrapped_of, line_from, line_of}
 use Rattle.text_dump_line.specs.Whole.{Whole}
-use Rattle.elem.specs.declared.OptOrigin.{OptOrigin}
+use Rattle.elem.specs.declared.Origin.{Origin}
 use Rattle.text_dump_line.specs.declared.PrefixText.{PrefixText}
 use Rattle.text_dump_line.specs.declared.PrefixText.TheVariants.{Blank, Invalid, Valid}
 use Rattle.text_dump_line.specs.declared.RouteEntry.{RouteEntry}
-use Rattle.text_dump_line.specs.declared.RouteRead.{RouteRead}
-use Rattle.text_dump_line.specs.declared.RouteRead.TheVariants.{Route, Nothing as NoRoute}
 use Rattle.text_dump_line.specs.declared.Line.TheVariants.{Unreadable, Passed, Wrapped, Route as RouteLine}
 
 -- slices
@@ -62,23 +54,6 @@ module _ (t : List ℕ) (a b : ℕ) where
   unfolding slice
   slice_missing e = rw e
 
-  -- as the test tells, and as the caller knows
-  pub slice_told : (r v : Bool) → r ≡ has_slice t a b → r ≡ v → has_slice t a b ≡ v
-  slice_told r v q f = sym q ∙ f
-
-  pub told_order : (r : Bool) → r ≡ has_slice t a b → r ≡ true → a ≤ b
-  told_order r q f = slice_order (sym q ∙ f)
-
-  pub told_inside : (r : Bool) → r ≡ has_slice t a b → r ≡ true → b ≤ length t
-  told_inside r q f = slice_inside (sym q ∙ f)
-
-  pub slice_known : (w : Bool) → (w ≡ true → has_slice t a b ≡ true) → w ≡ true → has_slice t a b ≡ true
-  slice_known w h f = h f
-
--- the caller knows nothing
-pub not_known : (A : Type 0) → false ≡ true → A
-not_known A f = let z : ◌≡◌ {A = ℕ} 0 1 = cc in absurd (omega arith)
-
 -- an ASCII line has a slice between any two of its places, so that of its columns only the order is tested
 rising_order : (c : Columns) → are_rising c ≡ true → (c.next_hop < c.metric) × (c.metric < c.local_pref) × (c.local_pref < c.weight) × (c.weight < c.path)
 rising_order c e =
@@ -90,9 +65,8 @@ rising_order c e =
 pub no_whole : (t : List ℕ) (c : Columns) → false ≡ true → Whole c t
 no_whole t c e = absurd (false≢true e)
 
-pub ascii_whole : (t : List ℕ) (c : Columns) (z r : Bool) → (z ≡ true → all is_one t ≡ true) → r ≡ are_rising c
-    → not z ≡ false → 3 ≤ c.next_hop → c.path ≤ length t → r ≡ true → Whole c t
-ascii_whole t c z r h q n first last f = go first (rising_order c (sym q ∙ f)) last (h (not-false z n))
+pub ascii_whole : (t : List ℕ) (c : Columns) (r : Bool) → all is_one t ≡ true → r ≡ are_rising c → 3 ≤ c.next_hop → c.path ≤ length t → r ≡ true → Whole c t
+ascii_whole t c r h q first last f = go first (rising_order c (sym q ∙ f)) last h
   where
     go : 3 ≤ c.next_hop → (c.next_hop < c.metric) × (c.metric < c.local_pref) × (c.local_pref < c.weight) × (c.weight < c.path)
         → c.path ≤ length t → all is_one t ≡ true → Whole c t
@@ -136,13 +110,13 @@ module _ (t : List ℕ) (a b : ℕ) (x : List ℕ) (e : x ≡ slice a b t) where
   unfolding column
   trimmed = rw e
 
-  pub address_read : (r : AddressRead) → r ≡ read_address (trim x) → r ≡ read_address (column a b t)
+  pub address_read : (r : Option IpAddr) → r ≡ read_address (trim x) → r ≡ read_address (column a b t)
   address_read r f = f ∙ ap read_address trimmed
 
-  pub number_read : (r : U32Read) → r ≡ read_u32 (trim x) → r ≡ read_u32 (column a b t)
+  pub number_read : (r : Option ℕ) → r ≡ read_u32 (trim x) → r ≡ read_u32 (column a b t)
   number_read r f = f ∙ ap read_u32 trimmed
 
-  pub prefix_read : (r : PrefixRead) → r ≡ read_prefix (trim x) → r ≡ read_prefix (column a b t)
+  pub prefix_read : (r : Option NetworkPrefix) → r ≡ read_prefix (trim x) → r ≡ read_prefix (column a b t)
   prefix_read r f = f ∙ ap read_prefix trimmed
 
   -- the prefix text
@@ -150,16 +124,16 @@ module _ (t : List ℕ) (a b : ℕ) (x : List ℕ) (e : x ≡ slice a b t) where
     pub blank : z ≡ true → Blank ≡ prefix_text (column a b t)
     blank f = no_text (column a b t) (ap length (sym trimmed) ∙ eqb-true (length (trim x)) 0 (sym q ∙ f))
 
-    module _ (n : z ≡ false) (r : PrefixRead) (h : r ≡ read_prefix (trim x)) where
+    module _ (n : z ≡ false) (r : Option NetworkPrefix) (h : r ≡ read_prefix (trim x)) where
       text : prefix_text (column a b t) ≡ prefix_as r
       text =
           some_text (column a b t) (λ y. eqb-false (length (trim x)) 0 (sym q ∙ n) (ap length trimmed ∙ y))
           ∙ ap prefix_as (sym (prefix_read r h))
 
-      pub valid : (p : NetworkPrefix) → r ≡ Prefix p → Valid p ≡ prefix_text (column a b t)
+      pub valid : (p : NetworkPrefix) → r ≡ Some p → Valid p ≡ prefix_text (column a b t)
       valid p f = sym (text ∙ ap prefix_as f)
 
-      pub invalid : r ≡ NoPrefix → Invalid ≡ prefix_text (column a b t)
+      pub invalid : r ≡ None → Invalid ≡ prefix_text (column a b t)
       invalid f = sym (text ∙ ap prefix_as f)
 
 pub starts_displayed : (t x : List ℕ) (r : Bool) → x ≡ trim_start t → r ≡ starts_with x (ascii "Displayed") → r ≡ displayed t
@@ -196,52 +170,14 @@ start_inside t path = go (has_slice t path (length t)) refl
 pub part_inside : (t : List ℕ) (path k : ℕ) → k ≡ path_start path t → k ≤ length t
 part_inside t path k e = omega (arith, start_inside t path)
 
--- the metric and the local preference, read in two turns: what is known after k of them, where the next number stands from a up to b
-unfoldable pub Numbers : Columns → List ℕ → ℕ → ℕ → ℕ → U32Read → U32Read → Type 0
-Numbers c t zero a b m l = (a ≡ c.metric) × (b ≡ c.local_pref)
-Numbers c t (suc zero) a b m l = (a ≡ c.local_pref) × (b ≡ c.weight) × (l ≡ read_u32 (column c.metric c.local_pref t))
-Numbers c t (suc (suc k)) a b m l = (m ≡ read_u32 (column c.metric c.local_pref t)) × (l ≡ read_u32 (column c.local_pref c.weight t))
-
-module _ (t : List ℕ) (c : Columns) where
-  pub no_number : (m l : U32Read) → Numbers c t 0 c.metric c.local_pref m l
-  unfolding Numbers
-  no_number m l = (refl, refl)
-
-  pub number_slice : (k a b : ℕ) (m l : U32Read) (w : Bool) → Numbers c t k a b m l → k < 2 → (w ≡ true → Whole c t) → w ≡ true → has_slice t a b ≡ true
-  unfolding Numbers
-  number_slice zero a b m l w i h g f = rw (i.0, i.1) (g f).metric_slice
-  number_slice (suc zero) a b m l w i h g f = rw (i.0, i.1) (g f).pref_slice
-  number_slice (suc (suc k)) a b m l w i h g f = absurd (omega arith)
-
-  pub number_more : (k a b : ℕ) (m l n : U32Read) → Numbers c t k a b m l → k < 2 → n ≡ read_u32 (column a b t) → Numbers c t (k + 1) b c.weight l n
-  unfolding Numbers
-  number_more zero a b m l n i h q = (i.1, refl, rw (← i.0, ← i.1) q)
-  number_more (suc zero) a b m l n i h q = (i.2, rw (← i.0, ← i.1) q)
-  number_more (suc (suc k)) a b m l n i h q = absurd (omega arith)
-
 -- what a route carries
-pub entry : (t : List ℕ) (c : Columns) (hop : IpAddr) (j a b : ℕ) (m l : U32Read) (k : ℕ) (o : OptOrigin) → Numbers c t j a b m l → 2 ≤ j
+pub entry : (t : List ℕ) (c : Columns) (hop : IpAddr) (m l : Option ℕ) (k : ℕ) (o : Option Origin)
+    → m ≡ read_u32 (column c.metric c.local_pref t) → l ≡ read_u32 (column c.local_pref c.weight t)
     → k ≡ path_start c.path t → o ≡ origin_of (take (length t - k) (drop k t))
     → record { next_hop = hop; metric = m; local_pref = l; path_start = k; path_end = length t; origin = o } ≡ entry_of c hop t
-unfolding Numbers
-entry t c hop zero a b m l k o i h ek eo = absurd (omega arith)
-entry t c hop (suc zero) a b m l k o i h ek eo = absurd (omega arith)
-entry t c hop (suc (suc j)) a b m l k o i h ek eo =
+entry t c hop m l k o em el ek eo =
     let p : o ≡ origin_of (drop k t) = eo ∙ ap origin_of (take_all (length t - k) (drop k t) (simp length-drop (omega arith))) in
-    rw (i.0, i.1, p, ek)
-
--- the bytes between two places, where they do not lie in the text in this order
-module _ (s : List ℕ) (a b : ℕ) where
-  pub between_back : b < a → [] ≡ take (b - a) (drop a s)
-  between_back h = let z : b - a ≡ 0 = omega arith in rw z
-
-  pub between_past : length s < a → [] ≡ take (b - a) (drop a s)
-  between_past h =
-      let g : length s ≤ a = omega arith in
-      rw (drop_of_length-le s g) (sym (take-nil (b - a)))
-
-  pub between_end : length s < b → take (length s - a) (drop a s) ≡ take (b - a) (drop a s)
-  between_end h = take_all (length s - a) (drop a s) (simp length-drop (omega arith)) ∙ sym (take_all (b - a) (drop a s) (simp length-drop (omega arith)))
+    rw (em, el, p, ek)
 
 -- the path's part of a line is that of the trimmed line: the slice from Path on
 pub path_part : (s : List ℕ) (c : Columns) (hop : IpAddr) → path_of (entry_of c hop (trim_end s)) s ≡ drop (path_start c.path (trim_end s)) (trim_end s)
@@ -252,64 +188,33 @@ path_part s c hop = go (trim_end s) (path_start c.path (trim_end s)) (flatten (d
 
 -- a route
 module _ (t : List ℕ) (c : Columns) (d : Bool) (qd : d ≡ displayed t) where
-  pub is_displayed : d ≡ true → NoRoute ≡ route_of c t
+  pub is_displayed : d ≡ true → None ≡ route_of c t
   unfolding route_of
   is_displayed f = rw (← qd, f)
 
-  module _ (n : d ≡ false) (r : AddressRead) (q : r ≡ read_address (column c.next_hop c.metric t)) where
+  module _ (n : d ≡ false) (r : Option IpAddr) (q : r ≡ read_address (column c.next_hop c.metric t)) where
     by_address : route_of c t ≡ route_to c t r
     unfolding route_of
     by_address = rw (← qd, n) (ap (route_to c t) (sym q))
 
-    pub no_address : r ≡ NoAddress → NoRoute ≡ route_of c t
+    pub no_address : r ≡ None → None ≡ route_of c t
     no_address f = sym (by_address ∙ rw f)
 
-    pub route : (hop : IpAddr) → r ≡ Address hop → (p : PrefixText) → p ≡ prefix_text (column 3 c.next_hop t)
-        → (e : RouteEntry) → e ≡ entry_of c hop t → Route p e ≡ route_of c t
+    pub route : (hop : IpAddr) → r ≡ Some hop → (p : PrefixText) → p ≡ prefix_text (column 3 c.next_hop t)
+        → (e : RouteEntry) → e ≡ entry_of c hop t → Some (p, e) ≡ route_of c t
     route hop f p ep e ee =
-        let w : Route p e ≡ route_to c t (Address hop) = rw (ee, ep) in
+        let w : Some (p, e) ≡ route_to c t (Some hop) = rw (ee, ep) in
         w ∙ sym (by_address ∙ ap (route_to c t) f)
 
--- by the columns, else by those shifted: what is still to be tried
-abbrev pub to_try : Bool → Columns → List ℕ → RouteRead
-to_try isShifted c t = or_else (route_of c t) (cond isShifted NoRoute (route_if (shift_left c) t))
-
-pub all_to_try : (t : List ℕ) (c : Columns) → any_route c t ≡ to_try false c t
-unfolding any_route
-all_to_try t c = refl
-
-else_nothing : (r : RouteRead) → or_else r NoRoute ≡ r
-else_nothing (Route p e) = refl
-else_nothing NoRoute = refl
-
-module _ (t : List ℕ) (c₀ c : Columns) (z : Bool) (i : any_route c₀ t ≡ to_try z c t) (r : RouteRead) (q : r ≡ route_of c t) where
-  pub tried_route : (p : PrefixText) (e : RouteEntry) → r ≡ Route p e → r ≡ any_route c₀ t
-  tried_route p e f = sym (i ∙ rw (← q, f))
-
-  module _ (n : r ≡ NoRoute) where
-    pub all_tried : z ≡ true → NoRoute ≡ any_route c₀ t
-    all_tried y = sym (i ∙ rw (← q, n, y))
-
-    module _ (y : z ≡ false) (s : ColumnsRead) (qs : s ≡ shift_left c) where
-      pub unshifted : s ≡ NoColumns → NoRoute ≡ any_route c₀ t
-      unshifted f = sym (i ∙ rw (← q, n, y, ← qs, f))
-
-      pub shifted_to_try : (c' : Columns) → s ≡ Found c' → any_route c₀ t ≡ to_try true c' t
-      shifted_to_try c' f = i ∙ rw (← q, n, y, ← qs, f) (sym (else_nothing (route_of c' t)))
-
--- they are shifted once
-pub shifted_once : (z : Bool) → z ≡ false → cond true 0 1 < cond z 0 1
-shifted_once z y = rw y (omega arith)
-
-pub trimmed_route : (s : List ℕ) (c : Columns) (t : List ℕ) (r : RouteRead) → t ≡ trim_end s → r ≡ route_of c t → r ≡ route_of c (trim_end s)
+pub trimmed_route : (s : List ℕ) (c : Columns) (t : List ℕ) (r : Option (PrefixText × RouteEntry)) → t ≡ trim_end s → r ≡ route_of c t → r ≡ route_of c (trim_end s)
 trimmed_route s c t r e f = rw (f, e)
 
 -- a wrapped prefix
-pub too_long_lem : (t : List ℕ) (n : ℕ) → n < length t → NoPrefix ≡ wrapped_of n t
+pub too_long_lem : (t : List ℕ) (n : ℕ) → n < length t → None ≡ wrapped_of n t
 unfolding wrapped_of
 too_long_lem t n h = rw (lt-leb (length t) n h)
 
-pub wrapped : (t : List ℕ) (n : ℕ) → length t ≤ n → (x : List ℕ) → x ≡ slice 3 (length t) t → (r : PrefixRead) → r ≡ read_prefix (trim x) → r ≡ wrapped_of n t
+pub wrapped : (t : List ℕ) (n : ℕ) → length t ≤ n → (x : List ℕ) → x ≡ slice 3 (length t) t → (r : Option NetworkPrefix) → r ≡ read_prefix (trim x) → r ≡ wrapped_of n t
 unfolding wrapped_of
 wrapped t n h x e r f = rw (le-leb (length t) n h) (prefix_read t 3 (length t) x e r f)
 
@@ -319,17 +224,44 @@ module _ (s : List ℕ) (c : Columns) (b : Bool) (qb : b ≡ readable s) where
   unfolding line_of
   unreadable_line_lem f = rw (← qb, not-true b f)
 
-  module _ (n : not b ≡ false) (t : List ℕ) (qt : t ≡ trim_end s) (r : RouteRead) (q : r ≡ any_route c t) where
+  module _ (n : not b ≡ false) (t : List ℕ) (qt : t ≡ trim_end s) (r : Option (PrefixText × RouteEntry)) (q : r ≡ any_route c t) where
     readable_line : line_of c s ≡ line_from c t
     unfolding line_of
     readable_line = rw (← qb, not-false b n, qt)
 
-    pub route_line : (p : PrefixText) (e : RouteEntry) → r ≡ Route p e → RouteLine e p ≡ line_of c s
+    pub route_line : (p : PrefixText) (e : RouteEntry) → r ≡ Some (p, e) → RouteLine e p ≡ line_of c s
     route_line p e f = sym (readable_line ∙ rw (← q, f))
 
-    module _ (m : r ≡ NoRoute) (w : PrefixRead) (qw : w ≡ wrapped_of c.next_hop t) where
-      pub wrapped_line : (p : NetworkPrefix) → w ≡ Prefix p → Wrapped p ≡ line_of c s
+    module _ (m : r ≡ None) (w : Option NetworkPrefix) (qw : w ≡ wrapped_of c.next_hop t) where
+      pub wrapped_line : (p : NetworkPrefix) → w ≡ Some p → Wrapped p ≡ line_of c s
       wrapped_line p f = sym (readable_line ∙ rw (← q, m, ← qw, f))
 
-      pub passed_line : w ≡ NoPrefix → Passed ≡ line_of c s
+      pub passed_line : w ≡ None → Passed ≡ line_of c s
       passed_line f = sym (readable_line ∙ rw (← q, m, ← qw, f))
+
+-- for is_whole
+pub ruleset whole_laws = (no_whole, ascii_whole)
+
+-- for slice
+pub ruleset slice_laws = (slice_order, slice_inside, slice_there, slice_missing)
+
+-- for prefix_at
+pub ruleset prefix_text_laws = (blank, valid, invalid)
+
+-- for is_displayed
+pub ruleset displayed_laws = (starts_displayed, starts_otherwise)
+
+-- for path_start
+pub ruleset path_start_laws = (path_there, path_missing)
+
+-- for entry_of
+pub ruleset entry_laws = (path_whole, part_inside, entry)
+
+-- for route_in
+pub ruleset route_laws = (prefix_whole, hop_whole, is_displayed, no_address)
+
+-- for parse_wrapped_prefix_line
+pub ruleset wrapped_laws = (too_long_lem, wrapped)
+
+-- for line_of
+pub ruleset line_laws = (trimmed_ascii, unreadable_line_lem, route_line, wrapped_line, passed_line)

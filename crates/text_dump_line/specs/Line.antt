@@ -1,5 +1,5 @@
 -- What one body line says (01, Body lines).
-use Rattle.std.specs.Prelude.{ℕ, ◌-◌, Bool, cond, List, [], ◌∷◌, length, take, drop, leb}
+use Rattle.std.specs.Prelude.{ℕ, ◌-◌, Bool, cond, List, [], ◌∷◌, length, take, drop, leb, Option, Some, None}
 use Rattle.scan.specs.Ascii.{ascii}
 use Rattle.scan.specs.Search.{starts_with}
 use Rattle.utf8.specs.Utf8.{readable}
@@ -9,20 +9,13 @@ use Rattle.decimal.specs.Decimal.{read_u32}
 use Rattle.network.specs.Address.{read_address}
 use Rattle.network.specs.Prefix.{read_prefix}
 use Rattle.network.specs.declared.IpAddr.{IpAddr}
-use Rattle.network.specs.declared.AddressRead.{AddressRead}
-use Rattle.network.specs.declared.AddressRead.TheVariants.{Address, Nothing as NoAddress}
-use Rattle.network.specs.declared.PrefixRead.{PrefixRead}
-use Rattle.network.specs.declared.PrefixRead.TheVariants.{Prefix, Nothing as NoPrefix}
+use Rattle.network.specs.declared.NetworkPrefix.{NetworkPrefix}
 use Rattle.columns.specs.Columns.{shift_left}
 use Rattle.columns.specs.declared.Columns.{Columns}
-use Rattle.columns.specs.declared.ColumnsRead.{ColumnsRead}
-use Rattle.columns.specs.declared.ColumnsRead.TheVariants.{Found, Nothing as NoColumns}
 use Rattle.path_text.specs.Path.{origin_of}
 use Rattle.text_dump_line.specs.declared.PrefixText.{PrefixText}
 use Rattle.text_dump_line.specs.declared.PrefixText.TheVariants.{Blank, Invalid, Valid}
 use Rattle.text_dump_line.specs.declared.RouteEntry.{RouteEntry}
-use Rattle.text_dump_line.specs.declared.RouteRead.{RouteRead}
-use Rattle.text_dump_line.specs.declared.RouteRead.TheVariants.{Route, Nothing as NoRoute}
 use Rattle.text_dump_line.specs.declared.Line.{Line}
 use Rattle.text_dump_line.specs.declared.Line.TheVariants.{Unreadable, Passed, Wrapped, Route as RouteLine}
 
@@ -37,9 +30,9 @@ column a b t = trim (slice a b t)
 unfoldable pub displayed : List ℕ → Bool
 displayed t = starts_with (trim_start t) (ascii "Displayed")
 
-abbrev pub prefix_as : PrefixRead → PrefixText
-prefix_as (Prefix p) = Valid p
-prefix_as NoPrefix = Invalid
+abbrev pub prefix_as : Option NetworkPrefix → PrefixText
+prefix_as (Some p) = Valid p
+prefix_as None = Invalid
 
 unfoldable pub prefix_text : List ℕ → PrefixText
 prefix_text [] = Blank
@@ -64,35 +57,35 @@ entry_of c hop t =
 abbrev pub path_of : RouteEntry → List ℕ → List ℕ
 path_of e s = take (e.path_end - e.path_start) (drop e.path_start s)
 
-abbrev pub route_to : Columns → List ℕ → AddressRead → RouteRead
-route_to c t (Address hop) = Route (prefix_text (column 3 c.next_hop t)) (entry_of c hop t)
-route_to c t NoAddress = NoRoute
+abbrev pub route_to : Columns → List ℕ → Option IpAddr → Option (PrefixText × RouteEntry)
+route_to c t (Some hop) = Some (prefix_text (column 3 c.next_hop t), entry_of c hop t)
+route_to c t None = None
 
 -- a route by these columns: the slice Next Hop..Metric must exist and trim to an address
-unfoldable pub route_of : Columns → List ℕ → RouteRead
-route_of c t = cond (displayed t) NoRoute (route_to c t (read_address (column c.next_hop c.metric t)))
+unfoldable pub route_of : Columns → List ℕ → Option (PrefixText × RouteEntry)
+route_of c t = cond (displayed t) None (route_to c t (read_address (column c.next_hop c.metric t)))
 
-abbrev pub route_if : ColumnsRead → List ℕ → RouteRead
-route_if (Found c) t = route_of c t
-route_if NoColumns t = NoRoute
+abbrev pub route_if : Option Columns → List ℕ → Option (PrefixText × RouteEntry)
+route_if (Some c) t = route_of c t
+route_if None t = None
 
-abbrev pub or_else : RouteRead → RouteRead → RouteRead
-or_else (Route p e) r = Route p e
-or_else NoRoute r = r
+abbrev pub or_else : Option (PrefixText × RouteEntry) → Option (PrefixText × RouteEntry) → Option (PrefixText × RouteEntry)
+or_else (Some (p, e)) r = Some (p, e)
+or_else None r = r
 
 -- by the columns, then by all five minus 1
-unfoldable pub any_route : Columns → List ℕ → RouteRead
+unfoldable pub any_route : Columns → List ℕ → Option (PrefixText × RouteEntry)
 any_route c t = or_else (route_of c t) (route_if (shift_left c) t)
 
 -- not longer than Next Hop, and the slice 3.. trims to a prefix (01's term: a wrapped prefix)
-unfoldable pub wrapped_of : ℕ → List ℕ → PrefixRead
-wrapped_of nextHop t = cond (leb (length t) nextHop) (read_prefix (column 3 (length t) t)) NoPrefix
+unfoldable pub wrapped_of : ℕ → List ℕ → Option NetworkPrefix
+wrapped_of nextHop t = cond (leb (length t) nextHop) (read_prefix (column 3 (length t) t)) None
 
 -- a route, else a wrapped prefix, else passed over
-abbrev pub line_as : RouteRead → PrefixRead → Line
-line_as (Route p e) w = RouteLine e p
-line_as NoRoute (Prefix p) = Wrapped p
-line_as NoRoute NoPrefix = Passed
+abbrev pub line_as : Option (PrefixText × RouteEntry) → Option NetworkPrefix → Line
+line_as (Some (p, e)) w = RouteLine e p
+line_as None (Some p) = Wrapped p
+line_as None None = Passed
 
 abbrev pub line_from : Columns → List ℕ → Line
 line_from c t = line_as (any_route c t) (wrapped_of c.next_hop t)

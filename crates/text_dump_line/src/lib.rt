@@ -10,10 +10,9 @@ ghost use Rattle.network.specs.Address.{read_address};
 ghost use Rattle.text_dump_line.specs.Line.{slice as slice_of, path_of, column as columnOf, displayed, prefix_text, path_start, entry_of, route_of, any_route, wrapped_of, line_of};
 ghost use Rattle.text_dump_line.specs.Whole.{Whole};
 
-use columns::{Columns, ColumnsRead};
-use decimal::U32Read;
-use elem::OptOrigin;
-use network::{AddressRead, IpAddr, NetworkPrefix, PrefixRead};
+use columns::Columns;
+use elem::Origin;
+use network::{IpAddr, NetworkPrefix};
 
 #[derive(Clone, Copy)]
 pub enum PrefixText {
@@ -26,17 +25,11 @@ pub enum PrefixText {
 #[derive(Clone, Copy)]
 pub struct RouteEntry {
     pub next_hop: IpAddr,
-    pub metric: U32Read,
-    pub local_pref: U32Read,
+    pub metric: Option<u32>,
+    pub local_pref: Option<u32>,
     pub path_start: usize,
     pub path_end: usize,
-    pub origin: OptOrigin,
-}
-
-#[derive(Clone, Copy)]
-pub enum RouteRead {
-    Route(PrefixText, RouteEntry),
-    Nothing,
+    pub origin: Option<Origin>,
 }
 
 #[derive(Clone, Copy)]
@@ -48,52 +41,44 @@ pub enum Line {
 }
 
 // Whether every column has its slice, which of an ASCII line the order of the places tells.
-#[tactic(auto, using(crate::proofs::LineLaws::no_whole))]
+#[tactic(auto, using(crate::proofs::LineLaws::whole_laws))]
 fn is_whole(ascii: bool, t: &[u8], c: Columns) -> bool
     requires { ascii ≡ true → all is_one t.now ≡ true }
     ensures { result ≡ true → Whole c t.now }
 {
-    if !ascii {
-        return false;
-    }
-    if c.next_hop < 3 {
-        return false;
-    }
-    if t.len() < c.path {
-        return false;
-    }
-    columns::are_rising(c)
+    ascii && 3 <= c.next_hop && c.path <= t.len() && columns::are_rising(c)
 }
 
 // The bytes from a up to b; none where there is no such slice. Of a whole line nothing is tested.
+#[tactic(auto, using(crate::proofs::LineLaws::slice_laws))]
 fn slice(whole: bool, t: &[u8], a: usize, b: usize) -> &[u8]
     requires { whole ≡ true → has_slice t.now a b ≡ true }
     ensures { result.now ≡ slice_of a b t.now }
 {
-    if whole {
-        return &t[a..b];
-    }
-    if utf8::has_slice(t, a, b) {
+    if whole || utf8::has_slice(t, a, b) {
         &t[a..b]
     } else {
         &t[..0]
     }
 }
 
-fn address_at(whole: bool, t: &[u8], a: usize, b: usize) -> AddressRead
+#[tactic(auto, using(crate::proofs::LineLaws::address_read))]
+fn address_at(whole: bool, t: &[u8], a: usize, b: usize) -> Option<IpAddr>
     requires { whole ≡ true → has_slice t.now a b ≡ true }
     ensures { result ≡ read_address (columnOf a b t.now) }
 {
     fields::read_address(slice(whole, t, a, b))
 }
 
-fn number_at(whole: bool, t: &[u8], a: usize, b: usize) -> U32Read
+#[tactic(auto, using(crate::proofs::LineLaws::number_read))]
+fn number_at(whole: bool, t: &[u8], a: usize, b: usize) -> Option<u32>
     requires { whole ≡ true → has_slice t.now a b ≡ true }
     ensures { result ≡ read_u32 (columnOf a b t.now) }
 {
     fields::read_number(slice(whole, t, a, b))
 }
 
+#[tactic(auto, using(crate::proofs::LineLaws::prefix_text_laws))]
 fn prefix_at(whole: bool, t: &[u8], a: usize, b: usize) -> PrefixText
     requires { whole ≡ true → has_slice t.now a b ≡ true }
     ensures { result ≡ prefix_text (columnOf a b t.now) }
@@ -102,58 +87,48 @@ fn prefix_at(whole: bool, t: &[u8], a: usize, b: usize) -> PrefixText
     if fields::is_blank(s) {
         return PrefixText::Blank;
     }
-    let PrefixRead::Prefix(p) = fields::read_prefix(s) else {
+    let Some(p) = fields::read_prefix(s) else {
         return PrefixText::Invalid;
     };
     PrefixText::Valid(p)
 }
 
 // Most lines begin with a visible byte that is no 'D', which one byte tells.
+#[tactic(auto, using(crate::proofs::LineLaws::displayed_laws))]
 fn is_displayed(t: &[u8]) -> bool
     ensures { result ≡ displayed t.now }
 {
-    if 0 < t.len() {
-        let b = t[0];
-        if b != b'D' {
-            if (0x21 <= b) & (b <= 0x7E) {
-                return false;
-            }
-        }
+    match t {
+        [b @ 0x21..=0x7E, ..] if *b != b'D' => false,
+        _ => scan::starts_with(text::trim_start(t), b"Displayed"),
     }
-    scan::starts_with(text::trim_start(t), b"Displayed")
 }
 
 // Where the path's part starts: at the column, or at the end where there is no slice.
+#[tactic(auto, using(crate::proofs::LineLaws::path_start_laws))]
 fn path_start(whole: bool, t: &[u8], path: usize) -> usize
     requires { whole ≡ true → has_slice t.now path (length t.now) ≡ true }
     ensures { result ≡ path_start path t.now }
 {
-    if whole {
-        return path;
-    }
-    if utf8::has_slice(t, path, t.len()) {
+    if whole || utf8::has_slice(t, path, t.len()) {
         path
     } else {
         t.len()
     }
 }
 
-// One place calls number_at, so that the compiler joins it in and copies no number in between.
+// One place calls number_at, so that the compiler joins it in and copies no number in between: the
+// metric is read first, and handed on when the local preference is read.
+#[tactic(auto, using(crate::proofs::LineLaws::entry_laws))]
 fn entry_of(whole: bool, t: &[u8], c: Columns, hop: IpAddr) -> RouteEntry
     requires { whole ≡ true → Whole c t.now }
     ensures { result ≡ entry_of c hop t.now }
 {
-    let mut metric = U32Read::Nothing;
-    let mut local_pref = U32Read::Nothing;
-    let mut a = c.metric;
-    let mut b = c.local_pref;
-    let mut k: usize = 0;
-    while k < 2 {
+    let mut metric = None;
+    let mut local_pref = None;
+    for (a, b) in [(c.metric, c.local_pref), (c.local_pref, c.weight)] {
         metric = local_pref;
         local_pref = number_at(whole, t, a, b);
-        a = b;
-        b = c.weight;
-        k += 1;
     }
     let path_start = path_start(whole, t, c.path);
     let origin = path_text::origin_of(&t[path_start..]);
@@ -167,72 +142,73 @@ fn entry_of(whole: bool, t: &[u8], c: Columns, hop: IpAddr) -> RouteEntry
     }
 }
 
-fn route_in(whole: bool, t: &[u8], c: Columns) -> RouteRead
+#[tactic(auto, using(crate::proofs::LineLaws::route_laws))]
+fn route_in(whole: bool, t: &[u8], c: Columns) -> Option<(PrefixText, RouteEntry)>
     requires { whole ≡ true → Whole c t.now }
     ensures { result ≡ route_of c t.now }
 {
     if is_displayed(t) {
-        return RouteRead::Nothing;
+        return None;
     }
-    let AddressRead::Address(next_hop) = address_at(whole, t, c.next_hop, c.metric) else {
-        return RouteRead::Nothing;
+    let Some(next_hop) = address_at(whole, t, c.next_hop, c.metric) else {
+        return None;
     };
     let prefix = prefix_at(whole, t, 3, c.next_hop);
-    RouteRead::Route(prefix, entry_of(whole, t, c, next_hop))
+    Some((prefix, entry_of(whole, t, c, next_hop)))
 }
 
 // By the columns, else by those shifted. One place calls, so that the compiler joins the two functions and copies no route in between.
-#[tactic(auto, using(crate::proofs::LineLaws::unshifted))]
-fn any_route(ascii: bool, t: &[u8], c: Columns) -> RouteRead
+#[tactic(auto, unfolding(crate::specs::Line::any_route))]
+fn any_route(ascii: bool, t: &[u8], c: Columns) -> Option<(PrefixText, RouteEntry)>
     requires { ascii ≡ true → all is_one t.now ≡ true }
     ensures { result ≡ any_route c t.now }
 {
-    let mut tried = c;
-    let mut is_shifted = false;
-    loop {
+    for is_shifted in [false, true] {
+        let tried = if is_shifted {
+            let Some(shifted) = columns::shift_columns_left(c) else {
+                return None;
+            };
+            shifted
+        } else {
+            c
+        };
         let whole = is_whole(ascii, t, tried);
         let route = route_in(whole, t, tried);
-        if let RouteRead::Route(_, _) = route {
+        if let Some((_, _)) = route {
             return route;
         }
-        if is_shifted {
-            return RouteRead::Nothing;
-        }
-        let ColumnsRead::Found(shifted) = columns::shift_columns_left(tried) else {
-            return RouteRead::Nothing;
-        };
-        tried = shifted;
-        is_shifted = true;
     }
+    None
 }
 
 // Whether the line is ASCII nobody has asked here, nor in the next function: its columns are tested.
-pub fn parse_route_line(line: &[u8], columns: Columns) -> RouteRead
+#[tactic(auto, using(crate::proofs::LineLaws::trimmed_route))]
+pub fn parse_route_line(line: &[u8], columns: Columns) -> Option<(PrefixText, RouteEntry)>
     ensures { result ≡ route_of columns (trim_end line.now) }
 {
     route_in(false, text::trim_end(line), columns)
 }
 
-pub fn parse_wrapped_prefix_line(line: &[u8], next_hop: usize) -> PrefixRead
+#[tactic(auto, using(crate::proofs::LineLaws::wrapped_laws))]
+pub fn parse_wrapped_prefix_line(line: &[u8], next_hop: usize) -> Option<NetworkPrefix>
     ensures { result ≡ wrapped_of next_hop line.now }
 {
     if next_hop < line.len() {
-        return PrefixRead::Nothing;
+        return None;
     }
     fields::read_prefix(slice(false, line, 3, line.len()))
 }
 
 // Is it UTF-8? An ASCII line is.
+#[tactic(auto, using(utf8::proofs::ReadableLaws::ascii_readable))]
 fn is_readable(ascii: bool, line: &[u8]) -> bool
     requires { ascii ≡ all is_one line.now }
     ensures { result ≡ readable line.now }
 {
-    if ascii {
-        return true;
-    }
-    utf8::is_utf8(line)
+    ascii || utf8::is_utf8(line)
 }
 
+#[tactic(auto, using(crate::proofs::LineLaws::line_laws))]
 pub fn line_of(line: &[u8], columns: Columns) -> Line
     ensures { result ≡ line_of columns line.now }
 {
@@ -241,10 +217,10 @@ pub fn line_of(line: &[u8], columns: Columns) -> Line
         return Line::Unreadable;
     }
     let t = text::trim_end(line);
-    if let RouteRead::Route(prefix, entry) = any_route(ascii, t, columns) {
+    if let Some((prefix, entry)) = any_route(ascii, t, columns) {
         return Line::Route(entry, prefix);
     }
-    let PrefixRead::Prefix(p) = parse_wrapped_prefix_line(t, columns.next_hop) else {
+    let Some(p) = parse_wrapped_prefix_line(t, columns.next_hop) else {
         return Line::Passed;
     };
     Line::Wrapped(p)
@@ -254,16 +230,6 @@ pub fn line_of(line: &[u8], columns: Columns) -> Line
 pub fn path_of(line: &[u8], entry: RouteEntry) -> &[u8]
     ensures { result.now ≡ path_of entry line.now }
 {
-    let start = entry.path_start;
-    let end = entry.path_end;
-    if end < start {
-        return &line[..0];
-    }
-    if line.len() < start {
-        return &line[..0];
-    }
-    if line.len() < end {
-        return &line[start..];
-    }
-    &line[start..end]
+    let end = entry.path_end.min(line.len());
+    line.get(entry.path_start..end).unwrap_or(&[])
 }

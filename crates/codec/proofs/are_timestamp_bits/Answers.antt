@@ -5,8 +5,8 @@ use Rattle.codec.proofs.are_timestamp_bits.Goals as goal
 
 ruleset laws = (a_timestamp, no_timestamp)
 
-pub returns-in-Timestamp : goal.returns-in-Timestamp
-returns-in-Timestamp c = search (laws, rules)
+pub returns-in-Some : goal.returns-in-Some
+returns-in-Some c = search (laws, rules)
 
-pub returns-in-Nothing : goal.returns-in-Nothing
-returns-in-Nothing c = search (laws, rules)
+pub returns-in_default : goal.returns-in_default
+returns-in_default c = search (laws, rules)

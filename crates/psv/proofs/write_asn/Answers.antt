@@ -4,8 +4,8 @@ use Rattle.psv.proofs.write_asn.Goals as goal
 
 ruleset laws = (asn_written, no_asn_written)
 
-pub returns-in-Known : goal.returns-in-Known
-returns-in-Known c = search (laws, rules)
+pub returns-in-Some : goal.returns-in-Some
+returns-in-Some c = search (laws, rules)
 
-pub returns-in-Nothing : goal.returns-in-Nothing
-returns-in-Nothing c = search (laws, rules)
+pub returns-in-None : goal.returns-in-None
+returns-in-None c = search (laws, rules)

@@ -4,8 +4,8 @@ use Rattle.psv.proofs.write_time.Goals as goal
 
 ruleset laws = (time_written, no_time_written)
 
-pub returns-in-Second : goal.returns-in-Second
-returns-in-Second c = search (laws, rules)
+pub returns-in-Some : goal.returns-in-Some
+returns-in-Some c = search (laws, rules)
 
-pub returns-in-Nothing : goal.returns-in-Nothing
-returns-in-Nothing c = search (laws, rules)
+pub returns-in-None : goal.returns-in-None
+returns-in-None c = search (laws, rules)

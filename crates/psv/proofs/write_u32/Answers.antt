@@ -4,8 +4,8 @@ use Rattle.psv.proofs.write_u32.Goals as goal
 
 ruleset laws = (number_written, no_number_written)
 
-pub returns-in-Number : goal.returns-in-Number
-returns-in-Number c = search (laws, rules)
+pub returns-in-Some : goal.returns-in-Some
+returns-in-Some c = search (laws, rules)
 
-pub returns-in-Nothing : goal.returns-in-Nothing
-returns-in-Nothing c = search (laws, rules)
+pub returns-in-None : goal.returns-in-None
+returns-in-None c = search (laws, rules)

@@ -5,17 +5,17 @@ use Rattle.psv_stream.proofs.copy_route.Goals as goal
 
 pub slice_bounds-put_texts-end : goal.slice_bounds-put_texts-end
 slice_bounds-put_texts-end c =
-    let inside = spelled_inside _ _ c.plain_path.ensures _ _ c.in-Text.is in
+    let inside = spelled_inside _ _ c.plain_path.ensures _ _ c.in-Some.is in
     simp length-take (omega arith)
 
 pub slice_bounds-put_texts-count : goal.slice_bounds-put_texts-count
-slice_bounds-put_texts-count c = spelled_order _ _ c.plain_path.ensures _ _ c.in-Text.is
+slice_bounds-put_texts-count c = spelled_order _ _ c.plain_path.ensures _ _ c.in-Some.is
 
 pub slice_bounds-put_texts-start : goal.slice_bounds-put_texts-start
-slice_bounds-put_texts-start c = spelled_order _ _ c.plain_path.ensures _ _ c.in-Text.is
+slice_bounds-put_texts-start c = spelled_order _ _ c.plain_path.ensures _ _ c.in-Some.is
 
 pub slice_bounds-put_texts-end-2 : goal.slice_bounds-put_texts-end-2
-slice_bounds-put_texts-end-2 c = spelled_inside _ _ c.plain_path.ensures _ _ c.in-Text.is
+slice_bounds-put_texts-end-2 c = spelled_inside _ _ c.plain_path.ensures _ _ c.in-Some.is
 
 pub slice_bounds-put_texts-end-4 : goal.slice_bounds-put_texts-end-4
 slice_bounds-put_texts-end-4 c = simp length-take (omega arith)
@@ -26,7 +26,7 @@ shape_of-out-in_default-put_texts c =
 
 pub returns-in_default-put_texts : goal.returns-in_default-put_texts
 returns-in_default-put_texts c =
-    copied_short _ _ _ _ _ _ _ _ c.requires (spelled _ _ c.plain_path.ensures _ _ c.in-Text.is) c.put_texts.ensures c.in_default-put_texts.is
+    copied_short _ _ _ _ _ _ _ _ c.requires (spelled _ _ c.plain_path.ensures _ _ c.in-Some.is) c.put_texts.ensures _ c.in_default-put_texts.is
 
 pub shape_of-out : goal.shape_of-out
 shape_of-out c =
@@ -34,4 +34,4 @@ shape_of-out c =
 
 pub returns : goal.returns
 returns c =
-    copied_put _ _ _ _ _ _ _ _ c.requires (spelled _ _ c.plain_path.ensures _ _ c.in-Text.is) c.put_texts.ensures c.if-path-gt16384.false _ c.in-Wrote.is _ _ c.write_byte.ensures
+    copied_put _ _ _ _ _ _ _ _ c.requires (spelled _ _ c.plain_path.ensures _ _ c.in-Some.is) c.put_texts.ensures c.if-path-gt16384.false _ c.in-Ok.is _ _ c.write_byte.ensures

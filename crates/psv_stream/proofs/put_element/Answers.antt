@@ -1,15 +1,12 @@
 use Rattle.std.proofs.Common.{arith, length-take}
-use Rattle.psv_stream.proofs.Texts.{element_put, element_spoilt, element_short}
+use Rattle.psv_stream.proofs.Texts.{element_put, element_failed}
 use Rattle.psv_stream.proofs.put_element.Goals as goal
 
 pub slice_bounds-to_psv-end-2 : goal.slice_bounds-to_psv-end-2
 slice_bounds-to_psv-end-2 c = simp length-take (omega arith)
 
-pub returns-in-Wrote : goal.returns-in-Wrote
-returns-in-Wrote c = search element_put
+pub returns-in_err-end : goal.returns-in_err-end
+returns-in_err-end c = element_failed _ _ _ _ _ c.requires c.to_psv.ensures _ c.in_err-end.was _ c.from_residual.ensures.1
 
-pub returns-in-Spoilt : goal.returns-in-Spoilt
-returns-in-Spoilt c = search element_spoilt
-
-pub returns-in-TooShort : goal.returns-in-TooShort
-returns-in-TooShort c = search element_short
+pub returns : goal.returns
+returns c = element_put _ _ _ _ _ c.requires c.to_psv.ensures _ c.in_ok-end.was _ _ c.write_byte.ensures

@@ -18,17 +18,17 @@ print_route-put-requires c = record { in_bounds = search rules; fine = fine_pref
 pub refuse-requires : goal.refuse-requires
 refuse-requires c = search (c.requires.in_bounds, rules)
 
-pub returns-in-Wrote : goal.returns-in-Wrote
-returns-in-Wrote c = record {
+pub returns-in-Ok : goal.returns-in-Ok
+returns-in-Ok c = record {
   body_does = route_wrote c.args.state c.args.b _ _ c.requires.kept _ c.requires.line_value _ c.wrapping_add_u64-number.ensures.value _ _ c.requires.text_value _ c.pack_behind-memory.ensures _ (valid_kind _ c.if-memory-lt2.false _ c.prefix_of-prefix.ensures)
-      _ _ _ c.print_route-put.ensures _ c.start_of-start_len.result c.in-Wrote.is;
+      _ _ _ c.print_route-put.ensures _ c.start_of-start_len.result c.in-Ok.is;
   keeps = route_keeps c.args.state c.args.b _ _ c.requires.kept _ c.requires.line_value _ c.wrapping_add_u64-number.ensures.value _ _ c.requires.text_value _ c.pack_behind-memory.ensures _ (valid_kind _ c.if-memory-lt2.false _ c.prefix_of-prefix.ensures)
       _ c.kept_len-kept.ensures _ _ c.start_of-start_len.ensures;
 }
 
-pub returns-in-Refused : goal.returns-in-Refused
-returns-in-Refused c = record {
+pub returns-in-Err : goal.returns-in-Err
+returns-in-Err c = record {
   body_does = route_refused c.args.state c.args.b _ _ c.requires.kept _ c.requires.line_value _ c.wrapping_add_u64-number.ensures.value _ _ c.requires.text_value _ c.pack_behind-memory.ensures _ (valid_kind _ c.if-memory-lt2.false _ c.prefix_of-prefix.ensures)
-      _ _ _ c.print_route-put.ensures _ c.in-Refused.is _ _ c.refuse.ensures;
+      _ _ _ c.print_route-put.ensures _ c.in-Err.is _ _ c.refuse.ensures;
   keeps = tt;
 }

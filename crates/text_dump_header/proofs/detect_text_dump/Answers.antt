@@ -1,12 +1,10 @@
-use borrow.Author.Rules.{rules}
 use Rattle.text_dump_header.proofs.DetectLaws.{no_bytes, marks}
-use borrow.Author.Rules.{rules}
 use Rattle.text_dump_header.proofs.detect_text_dump.Goals as goal
 
-ruleset laws = (no_bytes, marks)
-
-pub returns-then-s-eq0 : goal.returns-then-s-eq0
-returns-then-s-eq0 c = search (laws, rules)
+pub returns-in_default : goal.returns-in_default
+returns-in_default c = no_bytes _ _ c.head-s.ensures c.in_default.len_below
 
 pub returns : goal.returns
-returns c = search (laws, rules)
+returns c =
+    marks _ _ c.head-s.ensures _ _ _ _ _ c.is_ascii_graphic.ensures.value
+    c.is_readable.ensures c.contains.ensures c.contains-2.ensures c.contains-3.ensures

@@ -1,20 +1,20 @@
+use Rattle.std.specs.Prelude.{Ok}
 use mathlib.Core.Path.{◌≡◌, ap, ◌∙◌}
 use borrow.Author.Rules.{rules}
-use Rattle.text_dump_header.specs.declared.HeaderRead.TheVariants.{Header}
 use Rattle.text_dump_header.specs.Header.{header_of, header}
 use Rattle.text_dump_header.proofs.HeaderLaws.{joined, scan_starts, scanned, text_ends, line_order, line_inside, line_unreadable, line_columns, line_passed}
 use Rattle.text_dump_header.proofs.parse_header.Goals as goal
-use Rattle.text_dump_header.proofs.parse_header.Goals.{then-all_scanned, else-all_scanned+then-at-text, else-all_scanned+else-at-text+else-not-is_readable+in-Found}
+use Rattle.text_dump_header.proofs.parse_header.Goals.{then-all_scanned, else-all_scanned+then-at-text, else-all_scanned+else-at-text+else-not-is_readable+in-Some}
 
 ruleset laws = (scan_starts, scanned, text_ends, line_order, line_inside, line_unreadable, line_columns, line_passed)
 
 -- where the ways out of the loop meet
-met : (c : goal.After-header_of) → Header (header_of c.if-all_scanned.p c.if-all_scanned.columns) c.if-all_scanned.at ≡ header c.args.text.now
+met : (c : goal.After-header_of) → Ok (header_of c.if-all_scanned.p c.if-all_scanned.columns, c.if-all_scanned.at) ≡ header c.args.text.now
 met c =
     elim c.if-all_scanned.branch [
       | then-all_scanned w ↦ search (joined, laws, rules)
       | else-all_scanned+then-at-text w ↦ search (joined, laws, rules)
-      | else-all_scanned+else-at-text+else-not-is_readable+in-Found w ↦ search (joined, laws, rules)
+      | else-all_scanned+else-at-text+else-not-is_readable+in-Some w ↦ search (joined, laws, rules)
     ]
 
 pub lines-init : goal.lines-init
@@ -66,4 +66,4 @@ pub header_of-requires : goal.header_of-requires
 header_of-requires c = search (laws, rules)
 
 pub returns : goal.returns
-returns c = ap (λ h. Header h c.if-all_scanned.at) c.header_of.ensures ∙ met c
+returns c = ap (λ h. Ok (h, c.if-all_scanned.at)) c.header_of.ensures ∙ met c

@@ -1,9 +1,9 @@
-use Prim.Native.Nat.{◌-◌}
-use Rattle.text_dump_line.proofs.LineLaws.{Numbers}
+use Rattle.std.proofs.Common.{◌≡◌}
+use Rattle.decimal.specs.Decimal.{read_u32}
+use Rattle.text_dump_line.specs.Line.{column}
 use Rattle.text_dump_line.proofs.entry_of.Given as goal
 
-abbrev pub invariant-loop-k : goal.invariant-loop-k
-invariant-loop-k l = Numbers l.c l.t l.k l.a l.b l.metric l.local_pref
-
-abbrev pub decreases-loop-k : goal.decreases-loop-k
-decreases-loop-k l = 2 - l.k
+abbrev pub invariant-loop-a : goal.invariant-loop-a
+invariant-loop-a l = (l.a-index ≡ 1 → l.local_pref ≡ read_u32 (column l.c.metric l.c.local_pref l.t))
+    × (l.a-index ≡ 2 → l.metric ≡ read_u32 (column l.c.metric l.c.local_pref l.t))
+    × (l.a-index ≡ 2 → l.local_pref ≡ read_u32 (column l.c.local_pref l.c.weight l.t))

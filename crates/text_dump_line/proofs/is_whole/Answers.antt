@@ -1,17 +1,7 @@
-use Rattle.text_dump_line.proofs.LineLaws.{no_whole, ascii_whole}
-use borrow.Author.Rules.{rules}
+use native.Mathlib.Omega.{arith}
+use Rattle.std.proofs.lemmas.Grind.{common_steps}
+use Rattle.text_dump_line.proofs.LineLaws.{ascii_whole}
 use Rattle.text_dump_line.proofs.is_whole.Goals as goal
 
-ruleset laws = (no_whole, ascii_whole)
-
-pub returns-then-not-ascii : goal.returns-then-not-ascii
-returns-then-not-ascii c = search (laws, rules)
-
-pub returns-then-t-c : goal.returns-then-t-c
-returns-then-t-c c = search (laws, rules)
-
-pub are_rising-requires : goal.are_rising-requires
-are_rising-requires c = search (laws, rules)
-
-pub returns : goal.returns
-returns c = search (laws, rules)
+pub returns-then-c-t : goal.returns-then-c-t
+returns-then-c-t c = λ f. ascii_whole _ _ _ (c.requires (grind (arith, common_steps))) c.are_rising.ensures (grind (arith, common_steps)) (grind (arith, common_steps)) f

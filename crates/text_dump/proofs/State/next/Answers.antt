@@ -6,17 +6,11 @@ use Rattle.text_dump.proofs.State.next.Goals as goal
 
 ruleset laws = (refl, comes, line_order, line_inside, line_less, passes, wraps, passes_route, refuses_5, in_part, refuses_6, says_end, at_route_lem)
 
-pub is_spoilt-requires : goal.is_spoilt-requires
-is_spoilt-requires c = search (laws, rules)
-
 pub returns-then-is_spoilt : goal.returns-then-is_spoilt
 returns-then-is_spoilt c = search (laws, rules)
 
 pub loop-at-init : goal.loop-at-init
 loop-at-init c = search (laws, rules)
-
-pub line_end-at-requires : goal.line_end-at-requires
-line_end-at-requires c = search (laws, rules)
 
 pub slice_bounds-line_of-count : goal.slice_bounds-line_of-count
 slice_bounds-line_of-count c = search (laws, rules)
@@ -27,17 +21,8 @@ slice_bounds-line_of-start c = search (laws, rules)
 pub slice_bounds-line_of-end : goal.slice_bounds-line_of-end
 slice_bounds-line_of-end c = search (laws, rules)
 
-pub line_of-line-requires : goal.line_of-line-requires
-line_of-line-requires c = search (laws, rules)
-
 pub enum_told-1 : goal.enum_told-1
 enum_told-1 c = search (laws, rules)
-
-pub shape_of-asns-in-Unreadable : goal.shape_of-asns-in-Unreadable
-shape_of-asns-in-Unreadable c = search (laws, rules)
-
-pub returns-in-Unreadable : goal.returns-in-Unreadable
-returns-in-Unreadable c = search (laws, rules)
 
 pub enum_told-in-Passed : goal.enum_told-in-Passed
 enum_told-in-Passed c = search (laws, rules)
@@ -48,20 +33,11 @@ loop-at-smaller-in-Passed c = search (laws, rules)
 pub loop-at-preserved-in-Passed : goal.loop-at-preserved-in-Passed
 loop-at-preserved-in-Passed c = search (laws, rules)
 
-pub enum_known-line : goal.enum_known-line
-enum_known-line c = search (laws, rules)
-
 pub loop-at-smaller-in-Wrapped : goal.loop-at-smaller-in-Wrapped
 loop-at-smaller-in-Wrapped c = search (laws, rules)
 
 pub loop-at-preserved-in-Wrapped : goal.loop-at-preserved-in-Wrapped
 loop-at-preserved-in-Wrapped c = search (laws, rules)
-
-pub enum_known-line-in-Route-1 : goal.enum_known-line-in-Route-1
-enum_known-line-in-Route-1 c = search (laws, rules)
-
-pub replaced-remembered-requires : goal.replaced-remembered-requires
-replaced-remembered-requires c = search (laws, rules)
 
 pub enum_known-remembered : goal.enum_known-remembered
 enum_known-remembered c = search (laws, rules)
@@ -74,9 +50,6 @@ slice_bounds-yielded-start c = search (laws, rules)
 
 pub slice_bounds-yielded-end : goal.slice_bounds-yielded-end
 slice_bounds-yielded-end c = search (laws, rules)
-
-pub yielded-requires : goal.yielded-requires
-yielded-requires c = search (laws, rules)
 
 pub shape_of-asns-in-Valid : goal.shape_of-asns-in-Valid
 shape_of-asns-in-Valid c =
@@ -92,11 +65,11 @@ loop-at-smaller c = search (laws, rules)
 pub loop-at-preserved : goal.loop-at-preserved
 loop-at-preserved c = search (passes_route, c.in_default.not-Valid, laws, rules)
 
-pub moved-requires : goal.moved-requires
-moved-requires c = search (laws, rules)
-
 pub shape_of-asns : goal.shape_of-asns
 shape_of-asns c = search (laws, rules)
 
 pub returns : goal.returns
 returns c = search (laws, rules)
+
+pub returns-in-Unreadable : goal.returns-in-Unreadable
+returns-in-Unreadable c = search (laws, rules)

@@ -1,15 +1,22 @@
+use mathlib.Core.Path.{ap}
+use mathlib.Core.Bool.{not}
 use borrow.Author.Rules.{rules}
-use Rattle.text_dump.proofs.OpenLaws.{no_timestamp, unreadable_header, no_columns, opens}
+use Rattle.text_dump.proofs.OpenLaws.{no_timestamp, fault_header, fault_columns, has_columns, opens}
 use Rattle.text_dump.proofs.State.open.Goals as goal
 
 pub returns-then-not-is_timestamp : goal.returns-then-not-is_timestamp
 returns-then-not-is_timestamp c = search (no_timestamp, rules)
 
-pub returns-in_default : goal.returns-in_default
-returns-in_default c = search (no_columns, rules)
+pub returns-in_err-header : goal.returns-in_err-header
+returns-in_err-header c =
+    fault_header _ _ _ c.is_timestamp.ensures (ap not c.if-not-is_timestamp.false) _ c.parse_header.ensures _ c.in_err-header.was _ c.from_residual.ensures.1
 
-pub returns-in-Unreadable : goal.returns-in-Unreadable
-returns-in-Unreadable c = search (unreadable_header, rules)
+pub returns-in_err-columns : goal.returns-in_err-columns
+returns-in_err-columns c =
+    fault_columns _ _ _ c.is_timestamp.ensures (ap not c.if-not-is_timestamp.false) _ c.parse_header.ensures _ _ c.in_ok-header.was
+    _ c.in_err-columns.ensures.value _ c.from_residual-in_err-columns.ensures.1
 
-pub returns-in-Found : goal.returns-in-Found
-returns-in-Found c = search (opens, rules)
+pub returns : goal.returns
+returns c =
+    let d = has_columns _ _ _ c.is_timestamp.ensures (ap not c.if-not-is_timestamp.false) _ c.parse_header.ensures _ _ c.in_ok-header.was _ c.in_ok-columns.ensures.value in
+    opens _ _ _ c.is_timestamp.ensures (ap not c.if-not-is_timestamp.false) _ c.parse_header.ensures _ _ c.in_ok-header.was _ d _ c.peer_ip.ensures _ c.peer_asn.ensures
