@@ -1,8 +1,8 @@
 -- The bytes of a state that next and turn leave as they are: bytes that spell a state are its own, and of a state that differs from it behind the first
 -- k words only the others have to be written. Assumes nothing.
+use Rattle.std.specs.Prelude.{Some}
 use mathlib.Core.Path.{◌≡◌, sym, ap, ◌∙◌}
 use mathlib.Core.List.{List, [], ◌∷◌, ◌++◌}
-use mathlib.Core.Option.{some}
 use Prim.Native.Nat.{ℕ, ◌-◌, ◌*◌, ◌≤◌}
 use native.Mathlib.Omega.{arith}
 use lib.ListN.{length, get_or, take, drop}
@@ -21,7 +21,7 @@ use Rattle.codec.proofs.OneSpelling.{spelled}
 use Rattle.codec.proofs.Writing.{moved_words, cursor_last, turned_words, position_last}
 use Rattle.collector.specs.Bytes.{state_bytes, state_in}
 
-module _ (s : List ℕ) (room : 128 ≤ length s) (known : (i : ℕ) → Fits w8 (get_or s i 0)) (σ : State) (here : state_in s ≡ some σ) where
+module _ (s : List ℕ) (room : 128 ≤ length s) (known : (i : ℕ) → Fits w8 (get_or s i 0)) (σ : State) (here : state_in s ≡ Some σ) where
   its_words : words_in 16 s ≡ state_words σ
   unfolding state_in
   its_words = (spelled (words_in 16 s) σ here).0 (length_words 16 s) (words_small 16 s room known 9)

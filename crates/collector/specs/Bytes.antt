@@ -1,6 +1,5 @@
 -- States and elements as bytes (docs/LAYOUT.md): words, one after another.
-use Rattle.std.specs.Prelude.{ℕ, List}
-use Rattle.std.proofs.Math.Option.{Option}
+use Rattle.std.specs.Prelude.{ℕ, List, Option}
 use Rattle.elem.specs.declared.Element.{Element}
 use Rattle.text_dump.specs.declared.State.{State}
 use Rattle.little.specs.Little.{bytes_of, words_in}

@@ -1,9 +1,9 @@
 -- Demand 3 of lists of calls that run through the exported opening, next and turn.
+use Rattle.std.specs.Prelude.{Option, Some, None}
 use Prim.Native.Nat.{ℕ, ◌≤◌}
 use mathlib.Core.Path.{◌≡◌, refl, sym, ap, ◌∙◌, subst}
 use mathlib.Core.Bool.{true, cond}
 use mathlib.Core.List.{List, [], ◌∷◌, ◌++◌, tail}
-use mathlib.Core.Option.{Option, some, none}
 use lib.ListN.{length, take, drop}
 use lib.Seq.{take_at}
 use lib.Dec.{T, eqb}
@@ -41,8 +41,8 @@ use Rattle.exported_reader.proofs.Same.{same_next, Regular, regular_next}
 
 -- the cursor that some bytes hold
 cursor_in : Option State → Cursor NetworkPrefix
-cursor_in (some τ) = cursor τ
-cursor_in none = record { at = 0; remembered = nothing }
+cursor_in (Some τ) = cursor τ
+cursor_in None = record { at = 0; remembered = nothing }
 
 -- the prefixes that fit here fit there
 valid_too : (m : Remembered NetworkPrefix) → FitsPrefixFact Read m → FitsPrefixFact by_value.Fits m
@@ -65,7 +65,7 @@ module _ (σ : State) (fit : Fits σ) (rising : are_rising σ.columns ≡ true) 
   abbrev Rest : List ℕ → Type 0
   Rest b = (128 ≤ length b) × (b ≡ set b (get b))
 
-  set_spells : (b : List ℕ) (c : Cursor NetworkPrefix) → 128 ≤ length b → FitsPrefixFact Read c.remembered → state_in (set b c) ≡ some (moved σ c)
+  set_spells : (b : List ℕ) (c : Cursor NetworkPrefix) → 128 ≤ length b → FitsPrefixFact Read c.remembered → state_in (set b c) ≡ Some (moved σ c)
   set_spells b c h f = state_back (moved σ c) b (moved_fits σ fit c f) h
 
   get_set : (b : List ℕ) (c : Cursor NetworkPrefix) → 128 ≤ length b → FitsPrefixFact Read c.remembered → get (set b c) ≡ c
@@ -78,7 +78,7 @@ module _ (σ : State) (fit : Fits σ) (rising : are_rising σ.columns ≡ true) 
     sym (state_again (moved σ c) b h) ∙ ap (λ (q : Cursor NetworkPrefix). set (set b c) q) (sym (get_set b c h f)),
   )
 
-  spells : (b : List ℕ) → Rest b → FitsPrefixFact Read (get b).remembered → state_in b ≡ some (moved σ (get b))
+  spells : (b : List ℕ) → Rest b → FitsPrefixFact Read (get b).remembered → state_in b ≡ Some (moved σ (get b))
   spells b r f = ap state_in r.1 ∙ set_spells b (get b) r.0 f
 
   -- next by value, from the state that the bytes spell
@@ -140,8 +140,8 @@ module _ (σ : State) (fit : Fits σ) (rising : are_rising σ.columns ≡ true) 
   }
     where
       of_state : (o : Option State) → remembered_in o ≡ (cursor_in o).remembered
-      of_state (some τ) = refl
-      of_state none = refl
+      of_state (Some τ) = refl
+      of_state None = refl
 
       remembered_is : (b : List ℕ) → remembered_in (state_in b) ≡ (get b).remembered
       remembered_is b = of_state (state_in b)
@@ -161,10 +161,10 @@ module _ (time : Float) (float : T (fits binary64 time)) (header : List ℕ) (σ
   unfolding open_left start
   open_left_lem p = rw (le-ltb (length state) 128 room) (ap (opens_in state) (open_append time header σ a.opens p a.ends))
 
-  opens : (p : List ℕ) → opening time state (header ++ p) ≡ some start
-  opens p = ap (λ (z : ℕ × List ℕ). cond (eqb z.0 0) (some z.1) none) (open_left_lem p)
+  opens : (p : List ℕ) → opening time state (header ++ p) ≡ Some start
+  opens p = ap (λ (z : ℕ × List ℕ). cond (eqb z.0 0) (Some z.1) None) (open_left_lem p)
 
-  starts : state_in start ≡ some σ
+  starts : state_in start ≡ Some σ
   unfolding start
   starts = state_back σ state fit room
 

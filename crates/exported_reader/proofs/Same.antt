@@ -1,9 +1,9 @@
 -- The plain reader under the lent lists is the one that is told the number of AS places, and what its answers are like. Assumes nothing.
+use Rattle.std.specs.Prelude.{Option, Some, None}
 use Prim.Native.Nat.{ℕ, ◌≤◌}
 use mathlib.Core.Path.{◌≡◌, refl, ap, ◌∙◌, subst}
 use mathlib.Core.Bool.{Bool, true, false, cond}
 use mathlib.Core.List.{List, [], ◌∷◌}
-use mathlib.Core.Option.{Option, some, none}
 use native.Mathlib.Omega.{arith}
 use lib.ListN.{length}
 use lib.Dec.{eqb, leb}
@@ -27,8 +27,8 @@ module _ (σ : State) where
     same_under (valid p) r l x y e = again ((rules σ).refusal (length k.asns) r)
       where
         again : (o : Option ℕ) → answer (lent_rules σ) before k p r l o ≡ answer (rules σ) before (length k.asns) p r l o
-        again none = refl
-        again (some n) = refl
+        again None = refl
+        again (Some n) = refl
 
     same_line : (y : Line NetworkPrefix Route) (m : Remembered NetworkPrefix) (l : List (List ℕ)) (f g : Remembered NetworkPrefix → Step (rules σ)) → ((m' : Remembered NetworkPrefix) → f m' ≡ g m')
         → take_line (lent_rules σ) before k y m l f ≡ take_line (rules σ) before (length k.asns) y m l g
@@ -51,7 +51,7 @@ module _ (σ : State) where
   Regular before end s = Unit {0}
   Regular before (refused n) s = (s ≡ before) × (eqb n 0 ≡ false) × (eqb n 255 ≡ false)
 
-  seven : (before : PlainState NetworkPrefix) (b : Bool) (n : ℕ) → cond b none (some 7) ≡ some n → Regular before (refused n) before
+  seven : (before : PlainState NetworkPrefix) (b : Bool) (n : ℕ) → cond b None (Some 7) ≡ Some n → Regular before (refused n) before
   seven before true n h = let z : ◌≡◌ {A = ℕ} 0 1 = cc in absurd (omega arith)
   seven before false n h = let z : 7 ≡ n = cc in subst (λ (j : ℕ). Regular before (refused j) before) z (refl, refl, refl)
 

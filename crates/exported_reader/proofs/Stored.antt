@@ -1,8 +1,8 @@
 -- What is written is read back: the state from its bytes, and the element from its bytes. Assumes nothing.
+use Rattle.std.specs.Prelude.{Some}
 use Prim.Native.Nat.{ℕ, ◌*◌, ◌≤◌}
 use mathlib.Core.Path.{◌≡◌, refl, sym, ap, ◌∙◌}
 use mathlib.Core.List.{List, ◌++◌}
-use mathlib.Core.Option.{some}
 use native.Mathlib.Omega.{arith}
 use lib.ListN.{length, drop, length-append, length-drop}
 use lib.Seq.{drop_at}
@@ -30,7 +30,7 @@ unfolding state_bytes state_words
 state_length σ b h = ap length (over (state_words σ) b h) ∙ simp (length-append, length-drop, length_bytes_of) (omega arith)
 
 -- what opening, next and turn write spells the state that they mean
-pub state_back : (σ : State) (b : List ℕ) → Fits σ → 128 ≤ length b → state_in (front (state_bytes σ) b) ≡ some σ
+pub state_back : (σ : State) (b : List ℕ) → Fits σ → 128 ≤ length b → state_in (front (state_bytes σ) b) ≡ Some σ
 unfolding state_in state_bytes state_words
 state_back σ b f h =
     ap (λ (l : List ℕ). state_of (words_in 16 l)) (over (state_words σ) b h)

@@ -1,9 +1,9 @@
 -- What opening, next and turn write spells the state that they mean: of every text, and of every state that bytes spell. Assumes nothing.
+use Rattle.std.specs.Prelude.{Some}
 use Prim.Native.Nat.{ℕ, ◌≤◌}
 use mathlib.Core.Path.{◌≡◌, refl, sym, ap, ◌∙◌, subst}
 use mathlib.Core.Bool.{Bool, true, false, not, ◌||◌, cond}
 use mathlib.Core.List.{List}
-use mathlib.Core.Option.{some}
 use native.Mathlib.Omega.{arith}
 use lib.ListN.{length}
 use lib.Dec.{T, ltb}
@@ -36,7 +36,7 @@ use Rattle.exported_reader.proofs.Stored.{state_back}
 use Rattle.exported_reader.proofs.Same.{Regular, regular_next}
 
 -- a state that bytes spell fits
-spelled_fits : (s : List ℕ) (σ : State) → state_in s ≡ some σ → Fits σ
+spelled_fits : (s : List ℕ) (σ : State) → state_in s ≡ Some σ → Fits σ
 unfolding state_in
 spelled_fits s σ h = (spelled (words_in 16 s) σ h).1
 
@@ -45,10 +45,10 @@ open_left_lem : (time : Float) (t s : List ℕ) (σ : State) → 128 ≤ length 
 unfolding open_left
 open_left_lem time t s σ h e = rw (le-ltb (length s) 128 h, e)
 
-pub open_spells : (time : Float) (t s : List ℕ) (σ : State) → T (fits binary64 time) → 128 ≤ length s → open_of time t ≡ opened σ → state_in (open_left t time s).1 ≡ some σ
+pub open_spells : (time : Float) (t s : List ℕ) (σ : State) → T (fits binary64 time) → 128 ≤ length s → open_of time t ≡ opened σ → state_in (open_left t time s).1 ≡ Some σ
 open_spells time t s σ f h e = ap (λ (z : ℕ × List ℕ). state_in z.1) (open_left_lem time t s σ h e) ∙ state_back σ s (opened_fits time t σ f e) h
 
-module _ (s : List ℕ) (room : 128 ≤ length s) (σ : State) (here : state_in s ≡ some σ) where
+module _ (s : List ℕ) (room : 128 ≤ length s) (σ : State) (here : state_in s ≡ Some σ) where
   fit : Fits σ
   fit = spelled_fits s σ here
 
@@ -60,7 +60,7 @@ module _ (s : List ℕ) (room : 128 ≤ length s) (σ : State) (here : state_in 
   turn_left_lem = rw (le-ltb (length s) 128 room, here)
 
   -- turn
-  pub turn_spells : ((turn_left s).0 ≡ 0) × (state_in (turn_left s).1 ≡ some (turned σ))
+  pub turn_spells : ((turn_left s).0 ≡ 0) × (state_in (turn_left s).1 ≡ Some (turned σ))
   turn_spells = (ap (λ (z : ℕ × List ℕ). z.0) turn_left_lem, ap (λ (z : ℕ × List ℕ). state_in z.1) turn_left_lem ∙ state_back (turned σ) s turned_fits room)
 
   -- next, over any part and with any lent lists, also where it refuses
@@ -103,11 +103,11 @@ module _ (s : List ℕ) (room : 128 ≤ length s) (σ : State) (here : state_in 
             by_answer z.0 z.1 (regular_next σ t k (cursor σ) (position_inside σ (length t) e))
             (next_keeps (rules σ) Read (lines_fit Read read_fits σ) (view t (cursor σ)) k (read_there σ.remembered fit.remembered (valid_there (length t) e)))
 
-  pub next_spells : (t a e : List ℕ) → 176 ≤ length e → state_in (next_left s t a e).state ≡ some (next σ t (length a)).1
+  pub next_spells : (t a e : List ℕ) → 176 ≤ length e → state_in (next_left s t a e).state ≡ Some (next σ t (length a)).1
   unfolding next_left
   next_spells t a e long = rw (le-ltb (length s) 128 room, le-ltb (length e) 176 long, here) (go (next σ t (length a)).0 (next σ t (length a)).1 (means t (length a)))
     where
-      go : (x : Answer WithAsns) (τ : State) → Means x τ → state_in (answers_in s a e x τ).state ≡ some τ
+      go : (x : Answer WithAsns) (τ : State) → Means x τ → state_in (answers_in s a e x τ).state ≡ Some τ
       go (element x) τ f = state_back τ s f room
       go end τ f = state_back τ s f room
-      go (refused n) τ e = here ∙ ap some (sym e)
+      go (refused n) τ e = here ∙ ap Some (sym e)

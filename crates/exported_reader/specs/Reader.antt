@@ -1,6 +1,5 @@
 -- The exported calls as a reader of parts, for demand 3: a state is the bytes lent for it.
-use Rattle.std.specs.Prelude.{ℕ, ◌≤◌, cond, List, [], length, take, eqb, Float}
-use Rattle.std.proofs.Math.Option.{Option, some, none}
+use Rattle.std.specs.Prelude.{ℕ, ◌≤◌, cond, List, [], length, take, eqb, Float, Option, Some, None}
 use Rattle.network.specs.declared.NetworkPrefix.{NetworkPrefix}
 use Rattle.plain_reader.specs.Rules.{Rules, Remembered, nothing}
 use Rattle.plain_reader.specs.Calls.{Reader, Answer, element, end, refused}
@@ -39,8 +38,8 @@ abbrev pub answered : Left → Answer WithAsns
 answered l = cond (eqb l.number 0) (element (taken l.element l.asns)) (cond (eqb l.number 255) end (refused l.number))
 
 abbrev pub remembered_in : Option State → Remembered NetworkPrefix
-remembered_in (some τ) = plain τ.remembered
-remembered_in none = nothing
+remembered_in (Some τ) = plain τ.remembered
+remembered_in None = nothing
 
 -- next and turn; of a turn that refused nothing would be left
 abbrev pub reader : (σ : State) → Reader (lent_rules σ)
@@ -54,4 +53,4 @@ reader σ =
 
 -- opening, with a part lent for the state
 abbrev pub opening : Float → List ℕ → List ℕ → Option (List ℕ)
-opening time state text = cond (eqb (open_left text time state).0 0) (some (open_left text time state).1) none
+opening time state text = cond (eqb (open_left text time state).0 0) (Some (open_left text time state).1) None

@@ -1,39 +1,28 @@
 -- `collector::fernweeks_next` meets its contract. Assumes nothing.
-use Rattle.collector.proofs.Calls.{next_short_state, next_short_element, next_no_state, next_element, next_end, next_spoilt, next_unreadable, next_too_few}
-use borrow.Author.Rules.{rules}
+use Rattle.collector.proofs.Calls.{next_element, next_end, next_spoilt, next_unreadable, next_too_few}
 use Rattle.collector.proofs.fernweeks_next.Goals as goal
 
-ruleset laws = (next_short_state, next_short_element, next_no_state, next_spoilt, next_unreadable, next_too_few)
+pub returns-in-Ok-Some : goal.returns-in-Ok-Some
+returns-in-Ok-Some c =
+    next_element _ _ _ _ c.if-state-lt-STATE_LEN.false c.if-element-lt-ELEMENT_LEN.false _ c.get_state.ensures _ c.in-Some.is _ _ c.next-answer.ensures
+    c.slice_known-1.given _ c.put_cursor.ensures _ _ _ c.in-Ok-Some.is (rw c.in-Ok-Some.is at c.in-Ok-Some.field-0-is) c.put_element.ensures
 
-pub returns-then-state-lt-STATE_LEN : goal.returns-then-state-lt-STATE_LEN
-returns-then-state-lt-STATE_LEN c = search (laws, rules)
+pub returns-in-Ok-None : goal.returns-in-Ok-None
+returns-in-Ok-None c =
+    next_end _ _ _ _ c.if-state-lt-STATE_LEN.false c.if-element-lt-ELEMENT_LEN.false _ c.get_state.ensures _ c.in-Some.is _ _ c.next-answer.ensures
+    c.slice_known-1.given _ c.put_cursor-in-Ok-None.ensures _ c.in-Ok-None.is (rw c.in-Ok-None.is at c.in-Ok-None.field-0-is)
 
-pub returns-then-element-lt-ELEMENT_LEN : goal.returns-then-element-lt-ELEMENT_LEN
-returns-then-element-lt-ELEMENT_LEN c = search (laws, rules)
+pub returns-in-Err-Spoilt : goal.returns-in-Err-Spoilt
+returns-in-Err-Spoilt c =
+    next_spoilt _ _ _ _ c.if-state-lt-STATE_LEN.false c.if-element-lt-ELEMENT_LEN.false _ c.get_state.ensures _ c.in-Some.is _ _ c.next-answer.ensures
+    _ c.in-Err-Spoilt.is (rw c.in-Err-Spoilt.is at c.in-Err-Spoilt.field-0-is)
 
-pub returns-in_default : goal.returns-in_default
-returns-in_default c = search (laws, rules)
+pub returns-in-Err-Unreadable : goal.returns-in-Err-Unreadable
+returns-in-Err-Unreadable c =
+    next_unreadable _ _ _ _ c.if-state-lt-STATE_LEN.false c.if-element-lt-ELEMENT_LEN.false _ c.get_state.ensures _ c.in-Some.is _ _ c.next-answer.ensures
+    _ c.in-Err-Unreadable.is (rw c.in-Err-Unreadable.is at c.in-Err-Unreadable.field-0-is)
 
-pub put_cursor-requires : goal.put_cursor-requires
-put_cursor-requires c = c.if-state-lt-STATE_LEN.false
-
-pub returns-in-Element : goal.returns-in-Element
-returns-in-Element c =
-    let a = c.args in
-    next_element a.state.now a.part.now a.asns.now a.element.now c.if-state-lt-STATE_LEN.false c.if-element-lt-ELEMENT_LEN.false _ c.get_state.ensures _ c.in-State.is
-    _ _ c.next.ensures c.slice_known-1.given _ _ c.put_cursor.ensures _ _ c.in-Element.is c.put_element.ensures
-
-pub returns-in-End : goal.returns-in-End
-returns-in-End c =
-    let a = c.args in
-    next_end a.state.now a.part.now a.asns.now a.element.now c.if-state-lt-STATE_LEN.false c.if-element-lt-ELEMENT_LEN.false _ c.get_state.ensures _ c.in-State.is
-    _ _ c.next.ensures c.slice_known-1.given _ _ c.put_cursor-in-End.ensures c.in-End.is
-
-pub returns-in-Spoilt : goal.returns-in-Spoilt
-returns-in-Spoilt c = search (laws, rules)
-
-pub returns-in-Unreadable : goal.returns-in-Unreadable
-returns-in-Unreadable c = search (laws, rules)
-
-pub returns-in-TooFewPlaces : goal.returns-in-TooFewPlaces
-returns-in-TooFewPlaces c = search (laws, rules)
+pub returns-in-Err-TooFewPlaces : goal.returns-in-Err-TooFewPlaces
+returns-in-Err-TooFewPlaces c =
+    next_too_few _ _ _ _ c.if-state-lt-STATE_LEN.false c.if-element-lt-ELEMENT_LEN.false _ c.get_state.ensures _ c.in-Some.is _ _ c.next-answer.ensures
+    _ c.in-Err-TooFewPlaces.is (rw c.in-Err-TooFewPlaces.is at c.in-Err-TooFewPlaces.field-0-is)

@@ -1,21 +1,12 @@
 -- `collector::fernweeks_open` meets its contract. Assumes nothing.
-use Rattle.collector.proofs.Calls.{open_short, open_table, open_no_timestamp, open_unreadable, open_no_columns}
-use borrow.Author.Rules.{rules}
+use Rattle.std.specs.Prelude.{Err}
+use mathlib.Core.Path.{ap, ◌∙◌}
+use Rattle.collector.proofs.Calls.{open_table, open_unreadable}
 use Rattle.collector.proofs.fernweeks_open.Goals as goal
 
-ruleset laws = (open_short, open_table, open_no_timestamp, open_unreadable, open_no_columns)
+pub returns-in-Ok : goal.returns-in-Ok
+returns-in-Ok c = open_table _ _ _ c.if-state-lt-STATE_LEN.false _ c.open.ensures _ _ c.in-Ok.is c.put_state.ensures
 
-pub returns-then-state-lt-STATE_LEN : goal.returns-then-state-lt-STATE_LEN
-returns-then-state-lt-STATE_LEN c = search (laws, rules)
-
-pub returns-in-Table : goal.returns-in-Table
-returns-in-Table c = search (laws, rules)
-
-pub returns-in-NoTimestamp : goal.returns-in-NoTimestamp
-returns-in-NoTimestamp c = search (laws, rules)
-
-pub returns-in-Unreadable : goal.returns-in-Unreadable
-returns-in-Unreadable c = search (laws, rules)
-
-pub returns-in-NoColumns : goal.returns-in-NoColumns
-returns-in-NoColumns c = search (laws, rules)
+pub returns-in-Err-Unreadable : goal.returns-in-Err-Unreadable
+returns-in-Err-Unreadable c =
+    open_unreadable _ _ _ c.if-state-lt-STATE_LEN.false _ c.open.ensures _ (c.in-Err-Unreadable.is ∙ ap Err c.in-Err-Unreadable.field-0-is)
