@@ -6,34 +6,80 @@
 // dedup_coalesce of one record, with one digit for each kind, length and number. An answer ends with all places that were lent.
 #![tactic(auto)]
 
+use aspath::Spoilt;
 use aspath_equivalence::Equivalence;
-use aspath_normal::Normalised;
+use aspath_normal::Counts;
 use cases::Tally;
 use path_cases::Loaded;
 use std::io;
 
-fn put_counts(out: &mut [u8], at: usize, segments: usize, count: usize) -> usize {
-    let k = cases::put_decimal(out, at, segments as u64);
-    let m = cases::put(out, k, b" ");
-    cases::put_decimal(out, m, count as u64)
+// The places that a record is read into.
+#[derive(Drop)]
+struct Lists {
+    kinds: [u8; 64],
+    lengths: [u32; 64],
+    numbers: [u32; 256],
 }
 
-fn put_normalised(out: &mut [u8], at: usize, r: Normalised) -> usize {
-    let Normalised::Counts(segments, count) = r else {
-        return path_cases::refused(out, at, 10);
-    };
-    put_counts(out, at, segments, count)
+impl Lists {
+    fn new() -> Lists {
+        Lists {
+            kinds: [0; 64],
+            lengths: [0; 64],
+            numbers: [0; 256],
+        }
+    }
+
+    // The record whose kinds are the field `at`.
+    fn load(&mut self, line: &[u8], at: usize) -> Loaded {
+        let mut s = [0; 4096];
+        path_cases::load(
+            line,
+            at,
+            &mut self.kinds,
+            &mut s,
+            &mut self.lengths,
+            &mut self.numbers,
+        )
+    }
+
+    // The record of an `all`.
+    fn load_digits(&mut self, line: &[u8]) -> Loaded {
+        let mut s = [0; 4096];
+        path_cases::load_digits(
+            line,
+            &mut self.kinds,
+            &mut s,
+            &mut self.lengths,
+            &mut self.numbers,
+        )
+    }
 }
 
-fn put_equivalence(out: &mut [u8], r: Equivalence) -> usize {
-    let Equivalence::Answer(same, segments, count, segments2, count2) = r else {
-        return path_cases::refused(out, 0, 10);
-    };
-    let k = cases::put_yes_no(out, 0, same);
+fn put_counts(out: &mut [u8], at: usize, counts: Counts) -> usize {
+    let k = cases::put_decimal(out, at, counts.segments as u64);
     let m = cases::put(out, k, b" ");
-    let p = put_counts(out, m, segments, count);
-    let q = cases::put(out, p, b" ");
-    put_counts(out, q, segments2, count2)
+    cases::put_decimal(out, m, counts.numbers as u64)
+}
+
+fn put_normalised(out: &mut [u8], at: usize, answer: Result<Counts, Spoilt>) -> usize {
+    match answer {
+        Ok(counts) => put_counts(out, at, counts),
+        Err(Spoilt) => path_cases::refused(out, at, 10),
+    }
+}
+
+fn put_equivalence(out: &mut [u8], answer: Result<Equivalence, Spoilt>) -> usize {
+    match answer {
+        Ok(found) => {
+            let k = cases::put_yes_no(out, 0, found.equivalent);
+            let m = cases::put(out, k, b" ");
+            let p = put_counts(out, m, found.first);
+            let q = cases::put(out, p, b" ");
+            put_counts(out, q, found.second)
+        }
+        Err(Spoilt) => path_cases::refused(out, 0, 10),
+    }
 }
 
 fn put_record(
@@ -52,291 +98,107 @@ fn put_record(
     cases::put_places(out, r, mark, numbers)
 }
 
-fn coalesced(
+// What a call answers of the record in the lists, and what it leaves in them.
+fn answer_call<F: Fn(&mut [u8], &mut [u32], &mut [u32], usize, usize) -> Result<Counts, Spoilt>>(
+    call: F,
     line: &[u8],
-    kinds: &mut [u8],
-    lengths: &mut [u32],
-    numbers: &[u32],
+    lists: &mut Lists,
+    n: Loaded,
     out: &mut [u8],
     at: usize,
     mark: &[u8],
-) -> usize {
-    let segments = cases::number(line, 4);
-    let count = cases::number(line, 5);
-    let r = aspath_normal::coalesce(kinds, lengths, numbers, segments, count);
-    let k = put_normalised(out, at, r);
-    put_record(out, k, mark, kinds, lengths, numbers)
-}
-
-fn deduped(
-    line: &[u8],
-    kinds: &mut [u8],
-    lengths: &mut [u32],
-    numbers: &mut [u32],
-    out: &mut [u8],
-    at: usize,
-    mark: &[u8],
-) -> usize {
-    let segments = cases::number(line, 4);
-    let count = cases::number(line, 5);
-    let r = aspath_normal::dedup_coalesce(kinds, lengths, numbers, segments, count);
-    let k = put_normalised(out, at, r);
-    put_record(out, k, mark, kinds, lengths, numbers)
-}
-
-fn equivalent(
-    line: &[u8],
-    kinds: &mut [u8],
-    lengths: &mut [u32],
-    numbers: &mut [u32],
-    kinds2: &mut [u8],
-    lengths2: &mut [u32],
-    numbers2: &mut [u32],
-    out: &mut [u8],
-) -> usize {
-    let segments = cases::number(line, 4);
-    let count = cases::number(line, 5);
-    let segments2 = cases::number(line, 9);
-    let count2 = cases::number(line, 10);
-    let r = aspath_equivalence::has_equivalent_routing(
-        kinds, lengths, numbers, segments, count, kinds2, lengths2, numbers2, segments2, count2,
+) -> usize
+    requires { F.IsAlwaysCallable call }
+{
+    let kinds = path_cases::first_bytes(&mut lists.kinds, n.kinds);
+    let lengths = cases::first_places(&mut lists.lengths, n.lengths);
+    let numbers = cases::first_places(&mut lists.numbers, n.numbers);
+    let answer = call(
+        kinds,
+        lengths,
+        numbers,
+        cases::number(line, 4),
+        cases::number(line, 5),
     );
-    let k = put_equivalence(out, r);
+    let k = put_normalised(out, at, answer);
+    put_record(out, k, mark, kinds, lengths, numbers)
+}
+
+// The numbers are lent shared: it moves none.
+fn coalesce(
+    kinds: &mut [u8],
+    lengths: &mut [u32],
+    numbers: &mut [u32],
+    segments: usize,
+    count: usize,
+) -> Result<Counts, Spoilt> {
+    aspath_normal::coalesce(kinds, lengths, numbers, segments, count)
+}
+
+fn answer_all(line: &[u8], lists: &mut Lists, out: &mut [u8]) -> usize {
+    let n = lists.load_digits(line);
+    let k = answer_call(coalesce, line, lists, n, out, 0, b"");
+    let m = cases::put(out, k, b"|");
+    let n = lists.load_digits(line);
+    answer_call(aspath_normal::dedup_coalesce, line, lists, n, out, m, b"")
+}
+
+fn answer_equivalent(line: &[u8], first: &mut Lists, second: &mut Lists, out: &mut [u8]) -> usize {
+    let n = first.load(line, 1);
+    let n2 = second.load(line, 6);
+    let kinds = path_cases::first_bytes(&mut first.kinds, n.kinds);
+    let lengths = cases::first_places(&mut first.lengths, n.lengths);
+    let numbers = cases::first_places(&mut first.numbers, n.numbers);
+    let kinds2 = path_cases::first_bytes(&mut second.kinds, n2.kinds);
+    let lengths2 = cases::first_places(&mut second.lengths, n2.lengths);
+    let numbers2 = cases::first_places(&mut second.numbers, n2.numbers);
+    let answer = aspath_equivalence::has_equivalent_routing(
+        kinds,
+        lengths,
+        numbers,
+        cases::number(line, 4),
+        cases::number(line, 5),
+        kinds2,
+        lengths2,
+        numbers2,
+        cases::number(line, 9),
+        cases::number(line, 10),
+    );
+    let k = put_equivalence(out, answer);
     let m = put_record(out, k, b",", kinds, lengths, numbers);
     put_record(out, m, b",", kinds2, lengths2, numbers2)
 }
 
-fn answer_coalesce(
-    n: Loaded,
-    line: &[u8],
-    kinds: &mut [u8],
-    lengths: &mut [u32],
-    numbers: &[u32],
-    out: &mut [u8],
-    at: usize,
-    mark: &[u8],
-) -> usize {
-    coalesced(
-        line,
-        path_cases::first_bytes(kinds, n.kinds),
-        cases::first_places(lengths, n.lengths),
-        path_cases::first_numbers(numbers, n.numbers),
-        out,
-        at,
-        mark,
-    )
-}
-
-fn answer_dedup(
-    n: Loaded,
-    line: &[u8],
-    kinds: &mut [u8],
-    lengths: &mut [u32],
-    numbers: &mut [u32],
-    out: &mut [u8],
-    at: usize,
-    mark: &[u8],
-) -> usize {
-    deduped(
-        line,
-        path_cases::first_bytes(kinds, n.kinds),
-        cases::first_places(lengths, n.lengths),
-        cases::first_places(numbers, n.numbers),
-        out,
-        at,
-        mark,
-    )
-}
-
-// The calls of one record.
-fn answer_one(
-    line: &[u8],
-    kinds: &mut [u8],
-    s: &mut [u8],
-    lengths: &mut [u32],
-    numbers: &mut [u32],
-    out: &mut [u8],
-) -> usize {
+fn answer(line: &[u8], first: &mut Lists, second: &mut Lists, out: &mut [u8]) -> usize {
     let name = cases::field(line, 0);
-    let n = path_cases::load(line, 1, kinds, s, lengths, numbers);
-    if scan::starts_with(name, b"coalesce") {
-        return answer_coalesce(n, line, kinds, lengths, numbers, out, 0, b",");
+    if name == b"all".as_slice() {
+        answer_all(line, first, out)
+    } else if name.starts_with(b"equivalent") {
+        answer_equivalent(line, first, second, out)
+    } else if name.starts_with(b"coalesce") {
+        let n = first.load(line, 1);
+        answer_call(coalesce, line, first, n, out, 0, b",")
+    } else if name.starts_with(b"dedup_coalesce") {
+        let n = first.load(line, 1);
+        answer_call(aspath_normal::dedup_coalesce, line, first, n, out, 0, b",")
+    } else {
+        0
     }
-    if scan::starts_with(name, b"dedup_coalesce") {
-        return answer_dedup(n, line, kinds, lengths, numbers, out, 0, b",");
-    }
-    0
-}
-
-fn all_coalesce(
-    line: &[u8],
-    kinds: &mut [u8],
-    s: &mut [u8],
-    lengths: &mut [u32],
-    numbers: &mut [u32],
-    out: &mut [u8],
-) -> usize {
-    let n = path_cases::load_digits(line, kinds, s, lengths, numbers);
-    answer_coalesce(n, line, kinds, lengths, numbers, out, 0, b"")
-}
-
-fn all_dedup(
-    line: &[u8],
-    kinds: &mut [u8],
-    s: &mut [u8],
-    lengths: &mut [u32],
-    numbers: &mut [u32],
-    out: &mut [u8],
-    at: usize,
-) -> usize {
-    let n = path_cases::load_digits(line, kinds, s, lengths, numbers);
-    let k = cases::put(out, at, b"|");
-    answer_dedup(n, line, kinds, lengths, numbers, out, k, b"")
-}
-
-fn answer_all(
-    line: &[u8],
-    kinds: &mut [u8],
-    s: &mut [u8],
-    lengths: &mut [u32],
-    numbers: &mut [u32],
-    out: &mut [u8],
-) -> usize {
-    let k = all_coalesce(line, kinds, s, lengths, numbers, out);
-    all_dedup(line, kinds, s, lengths, numbers, out, k)
-}
-
-fn parts_equivalent(
-    n: Loaded,
-    n2: Loaded,
-    line: &[u8],
-    kinds: &mut [u8],
-    lengths: &mut [u32],
-    numbers: &mut [u32],
-    kinds2: &mut [u8],
-    lengths2: &mut [u32],
-    numbers2: &mut [u32],
-    out: &mut [u8],
-) -> usize {
-    equivalent(
-        line,
-        path_cases::first_bytes(kinds, n.kinds),
-        cases::first_places(lengths, n.lengths),
-        cases::first_places(numbers, n.numbers),
-        path_cases::first_bytes(kinds2, n2.kinds),
-        cases::first_places(lengths2, n2.lengths),
-        cases::first_places(numbers2, n2.numbers),
-        out,
-    )
-}
-
-fn second_loaded(
-    n: Loaded,
-    line: &[u8],
-    kinds: &mut [u8],
-    s: &mut [u8],
-    lengths: &mut [u32],
-    numbers: &mut [u32],
-    kinds2: &mut [u8],
-    lengths2: &mut [u32],
-    numbers2: &mut [u32],
-    out: &mut [u8],
-) -> usize {
-    let n2 = path_cases::load(line, 6, kinds2, s, lengths2, numbers2);
-    parts_equivalent(
-        n, n2, line, kinds, lengths, numbers, kinds2, lengths2, numbers2, out,
-    )
-}
-
-fn answer_equivalent(
-    line: &[u8],
-    kinds: &mut [u8],
-    s: &mut [u8],
-    lengths: &mut [u32],
-    numbers: &mut [u32],
-    kinds2: &mut [u8],
-    lengths2: &mut [u32],
-    numbers2: &mut [u32],
-    out: &mut [u8],
-) -> usize {
-    let n = path_cases::load(line, 1, kinds, s, lengths, numbers);
-    second_loaded(
-        n, line, kinds, s, lengths, numbers, kinds2, lengths2, numbers2, out,
-    )
-}
-
-fn answer(
-    line: &[u8],
-    kinds: &mut [u8],
-    s: &mut [u8],
-    lengths: &mut [u32],
-    numbers: &mut [u32],
-    kinds2: &mut [u8],
-    lengths2: &mut [u32],
-    numbers2: &mut [u32],
-    out: &mut [u8],
-) -> usize {
-    let name = cases::field(line, 0);
-    if scan::same(name, b"all") {
-        return answer_all(line, kinds, s, lengths, numbers, out);
-    }
-    if scan::starts_with(name, b"equivalent") {
-        return answer_equivalent(
-            line, kinds, s, lengths, numbers, kinds2, lengths2, numbers2, out,
-        );
-    }
-    answer_one(line, kinds, s, lengths, numbers, out)
-}
-
-fn one(
-    rt: &impl Print,
-    t: Tally,
-    list: &[u8],
-    at: usize,
-    kinds: &mut [u8],
-    s: &mut [u8],
-    lengths: &mut [u32],
-    numbers: &mut [u32],
-    kinds2: &mut [u8],
-    lengths2: &mut [u32],
-    numbers2: &mut [u32],
-    out: &mut [u8],
-) -> io::Result<Tally> {
-    let line = cases::line(list, at);
-    let k = answer(
-        line, kinds, s, lengths, numbers, kinds2, lengths2, numbers2, out,
-    );
-    cases::count(rt, t, list, at, cases::part(out, 0, k))
 }
 
 fn turn(rt: &impl Print, t: Tally, list: &[u8], at: usize) -> io::Result<Tally> {
-    let mut kinds = [0u8; 64];
-    let mut s = [0; 4096];
-    let mut lengths = [0u32; 64];
-    let mut numbers = [0u32; 256];
-    let mut kinds2 = [0u8; 64];
-    let mut lengths2 = [0u32; 64];
-    let mut numbers2 = [0u32; 256];
+    let mut first = Lists::new();
+    let mut second = Lists::new();
     let mut out = [0; 4096];
-    one(
-        rt,
-        t,
-        list,
-        at,
-        &mut kinds,
-        &mut s,
-        &mut lengths,
-        &mut numbers,
-        &mut kinds2,
-        &mut lengths2,
-        &mut numbers2,
-        &mut out,
-    )
+    let line = cases::line(list, at);
+    let k = answer(line, &mut first, &mut second, &mut out);
+    cases::count(rt, t, list, at, cases::part(&out, 0, k))
 }
 
 fn run(rt: &impl Print, list: &[u8]) -> io::Result<()> {
     let mut t = cases::start();
     let mut at = 0;
+    // Stays a while: a turn goes on to the next line, which no range says.
     while at < list.len() {
         t = turn(rt, t, list, at)?;
         at = cases::after(list, at);

@@ -6,64 +6,35 @@ pub fn refused(out: &mut [u8], at: usize, number: u64) -> usize {
     cases::put_decimal(out, k, number)
 }
 
-fn wide(b: u8) -> u32 {
-    b as u32
-}
-
 fn byte_numbers(s: &[u8], out: &mut [u32]) -> usize {
-    let mut i = 0;
-    while i < out.len() {
-        if s.len() <= i {
-            return i;
-        }
-        out[i] = wide(s[i]);
-        i += 1;
+    for (place, b) in out.iter_mut().zip(s) {
+        *place = u32::from(*b);
     }
-    i
-}
-
-fn word(a: u8, b: u8, c: u8, d: u8) -> u32 {
-    (a as u32) * 16777216 + (b as u32) * 65536 + (c as u32) * 256 + (d as u32)
+    s.len().min(out.len())
 }
 
 fn word_numbers(s: &[u8], out: &mut [u32]) -> usize {
-    let mut i = 0;
-    while i < out.len() {
-        let k = i * 4;
-        if s.len() < 4 {
-            return i;
-        }
-        if s.len() - 4 < k {
-            return i;
-        }
-        out[i] = word(s[k], s[k + 1], s[k + 2], s[k + 3]);
-        i += 1;
+    let (words, _) = s.as_chunks::<4>();
+    for (place, word) in out.iter_mut().zip(words) {
+        *place = u32::from_be_bytes(*word);
     }
-    i
-}
-
-fn digit(b: u8) -> u8 {
-    if b < 48 { 0 } else { b - 48 }
+    words.len().min(out.len())
 }
 
 fn digits(s: &[u8], out: &mut [u8]) -> usize {
-    let mut i = 0;
-    while i < out.len() {
-        if s.len() <= i {
-            return i;
-        }
-        out[i] = digit(s[i]);
-        i += 1;
+    for (place, b) in out.iter_mut().zip(s) {
+        *place = b.saturating_sub(b'0');
     }
-    i
+    s.len().min(out.len())
 }
 
 pub fn first_numbers(s: &[u32], n: usize) -> &[u32] {
-    if s.len() < n { s } else { &s[..n] }
+    &s[..n.min(s.len())]
 }
 
 pub fn first_bytes(s: &mut [u8], n: usize) -> &mut [u8] {
-    if s.len() < n { s } else { &mut s[..n] }
+    let n = n.min(s.len());
+    &mut s[..n]
 }
 
 // How many of each a record has.

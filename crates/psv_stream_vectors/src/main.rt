@@ -5,73 +5,50 @@
 // size, and whole; of the output, no more is lent at first than a run asks for.
 #![tactic(auto)]
 
-use cases::Tally;
-use decimal::U64Read;
-use psv_stream::{Phase, Ran};
+use cases::{Answer, Program};
+use psv_stream::Phase;
 use std::io;
+use std::io::Write;
+
+// The bytes of a text.
+const TEXT: usize = 262144;
+
+// More turns than any input here takes.
+const TURNS: u32 = 1000000;
+
+// How many bytes of a wrong text are shown.
+const SHOWN: usize = 1024;
 
 // Room for a text.
-fn text_buffer() -> [u8; 262144] {
-    [0; 262144]
-}
-
-fn part_end(s: &[u8], at: usize, b: u8) -> usize {
-    let mut i = at;
-    while i < s.len() {
-        if s[i] == b {
-            return i;
-        }
-        i += 1;
-    }
-    i
-}
-
-fn next(i: usize) -> usize {
-    i.wrapping_add(1)
+fn text_buffer() -> [u8; TEXT] {
+    [0; TEXT]
 }
 
 // How often a part is to be put.
 fn times(s: &[u8]) -> u64 {
-    let U64Read::Number(n) = decimal::read_u64(s) else {
-        return 1;
-    };
-    n
+    match decimal::read_u64(s) {
+        Some(n) => n,
+        None => 1,
+    }
 }
 
-fn put_times(s: &[u8], n: u64, out: &mut [u8], at: usize) -> usize {
+fn put_part(s: &[u8], out: &mut [u8], at: usize) -> usize {
+    let mut halves = s.splitn(2, |b| *b == b'*');
+    let digits = halves.next().unwrap_or(&[]);
+    let n = times(halves.next().unwrap_or(&[]));
+    let mut bytes = [0; 4096];
+    let m = cases::hex(digits, &mut bytes);
     let mut k = at;
-    let mut left = n;
-    while 0 < left {
-        k = cases::put(out, k, s);
-        left -= 1;
+    for _ in 0..n {
+        k = cases::put(out, k, cases::part(&bytes, 0, m));
     }
     k
 }
 
-fn put_part(s: &[u8], out: &mut [u8], at: usize) -> usize {
-    let star = part_end(s, 0, b'*');
-    let mut bytes = [0; 4096];
-    let n = cases::hex(cases::part(s, 0, star), &mut bytes);
-    put_times(
-        cases::part(&bytes, 0, n),
-        times(cases::part(s, next(star), s.len())),
-        out,
-        at,
-    )
-}
-
 fn expand(s: &[u8], out: &mut [u8]) -> usize {
     let mut n = 0;
-    let mut at = 0;
-    let mut parts = s.len();
-    while 0 < parts {
-        if s.len() <= at {
-            return n;
-        }
-        let end = part_end(s, at, b',');
-        n = put_part(cases::part(s, at, end), out, n);
-        at = next(end);
-        parts -= 1;
+    for part in s.split(|b| *b == b',') {
+        n = put_part(part, out, n);
     }
     n
 }
@@ -87,64 +64,30 @@ struct Driven {
     ended: bool,
 }
 
-fn smaller(a: usize, b: usize) -> usize {
-    if a < b { a } else { b }
-}
-
-fn sum(a: usize, b: usize) -> usize {
-    a.wrapping_add(b)
-}
-
 // The next piece comes.
 fn feed(d: Driven, input: &[u8], piece: usize, bytes: &mut [u8]) -> Driven {
     if !d.starved {
         return d;
     }
-    let come = d.come;
-    let end = smaller(sum(come, piece), input.len());
-    let filled = cases::put(bytes, d.filled, cases::part(input, come, end));
-    let phase = d.phase;
+    let end = d.come.wrapping_add(piece).min(input.len());
     Driven {
-        phase,
         come: end,
-        filled,
-        printed: d.printed,
-        starved: true,
-        ended: come == end,
+        filled: cases::put(bytes, d.filled, cases::part(input, d.come, end)),
+        ended: d.come == end,
+        ..d
     }
-}
-
-fn behind(s: &mut [u8], at: usize) -> &mut [u8] {
-    if s.len() < at { s } else { &mut s[at..] }
-}
-
-fn run(d: Driven, bytes: &[u8], room: usize, out: &mut [u8]) -> Ran {
-    let phase = d.phase;
-    let ended = d.ended;
-    let lent = path_cases::first_bytes(behind(out, d.printed), room);
-    psv_stream::run(phase, cases::part(bytes, 0, d.filled), ended, lent)
 }
 
 fn step(d: Driven, bytes: &mut [u8], room: usize, out: &mut [u8]) -> Driven {
-    let ran = run(d, bytes, room, out);
-    let phase = ran.phase;
-    let filled = input::keep(bytes, ran.consumed, d.filled);
+    let start = d.printed.min(out.len());
+    let lent = path_cases::first_bytes(&mut out[start..], room);
+    let ran = psv_stream::run(d.phase, cases::part(bytes, 0, d.filled), d.ended, lent);
     Driven {
-        phase,
-        come: d.come,
-        filled,
-        printed: sum(d.printed, ran.written),
+        phase: ran.phase,
+        filled: input::keep(bytes, ran.consumed, d.filled),
+        printed: d.printed.wrapping_add(ran.written),
         starved: ran.starved,
-        ended: d.ended,
-    }
-}
-
-fn is_stopped(phase: Phase) -> bool {
-    match phase {
-        Phase::Path => false,
-        Phase::Header(_, _, _) => false,
-        Phase::Body(_, _) => false,
-        Phase::Stopped => true,
+        ..d
     }
 }
 
@@ -158,94 +101,70 @@ fn drive(input: &[u8], piece: usize, room: usize, bytes: &mut [u8], out: &mut [u
         starved: true,
         ended: false,
     };
-    let mut turns: u32 = 1000000;
-    while 0 < turns {
+    for _ in 0..TURNS {
         d = feed(d, input, piece, bytes);
         d = step(d, bytes, room, out);
-        let phase = d.phase;
-        if is_stopped(phase) {
+        if matches!(d.phase, Phase::Stopped) {
             return d.printed;
         }
-        turns -= 1;
     }
     0
 }
 
-// Whether the right text is printed where the input comes in such pieces; if not, what is printed is put into the answer, as far as there is room.
-fn compare(
+// Whether the right text is printed where the input comes in such pieces; if not, the beginning of
+// what is printed is put into the answer.
+fn is_printed(
     input: &[u8],
     piece: usize,
     room: usize,
     right: &[u8],
-    answer: &mut [u8],
-    at: usize,
-) -> usize {
+    out: &mut Answer,
+) -> io::Result<bool> {
     let mut bytes = text_buffer();
-    let mut out = text_buffer();
-    let n = drive(input, piece, room, &mut bytes, &mut out);
-    let printed = cases::part(&out, 0, n);
-    if scan::same(printed, right) {
-        return at;
+    let mut lent = text_buffer();
+    let n = drive(input, piece, room, &mut bytes, &mut lent);
+    let printed = cases::part(&lent, 0, n);
+    if printed == right {
+        return Ok(true);
     }
-    let k = cases::put(answer, at, b"in pieces of ");
-    let m = cases::put_decimal(answer, k, piece as u64);
-    let p = cases::put(answer, m, b": ");
-    cases::put(answer, p, printed)
-}
-
-fn many(piece: usize) -> usize {
-    if piece < 65536 { piece * 64 } else { piece }
+    write!(out, "in pieces of {piece}: ")?;
+    out.write_all(&printed[..printed.len().min(SHOWN)])?;
+    Ok(false)
 }
 
 // `same`, if it is printed however the input comes.
-fn compare_all(input: &[u8], piece: usize, right: &[u8], answer: &mut [u8]) -> usize {
-    let three = sum(piece, sum(piece, piece));
-    let a = compare(input, piece, 65537, right, answer, 0);
-    let b = compare(input, three, 65600, right, answer, a);
-    let c = compare(input, many(piece), 70000, right, answer, b);
-    let d = compare(input, 500000, 500000, right, answer, c);
-    if d == 0 {
-        return cases::put(answer, 0, b"same");
+fn put_compared(input: &[u8], piece: usize, right: &[u8], out: &mut Answer) -> io::Result<()> {
+    let runs = [
+        (piece, 65537),
+        (piece.wrapping_mul(3), 65600),
+        (piece.wrapping_mul(64), 70000),
+        (500000, 500000),
+    ];
+    let mut same = true;
+    for (size, room) in runs {
+        same = is_printed(input, size, room, right, out)? && same;
     }
-    d
+    if same { write!(out, "same") } else { Ok(()) }
 }
 
-fn least(n: u64) -> usize {
-    if n < 65536 { n as usize } else { 65536 }
-}
+struct StreamCases;
 
-fn answer(line: &[u8], out: &mut [u8]) -> usize {
-    let mut input = text_buffer();
-    let mut right = text_buffer();
-    let n = expand(cases::field(line, 2), &mut input);
-    let m = expand(cases::field(line, 3), &mut right);
-    let piece = least(cases::number(line, 1) as u64);
-    compare_all(
-        cases::part(&input, 0, n),
-        piece,
-        cases::part(&right, 0, m),
-        out,
-    )
-}
-
-fn turn(rt: &impl Print, t: Tally, list: &[u8], at: usize) -> io::Result<Tally> {
-    let mut out = [0; 4096];
-    let n = answer(cases::line(list, at), &mut out);
-    cases::count(rt, t, list, at, cases::part(&out, 0, n))
-}
-
-fn run_list(rt: &impl Print, list: &[u8]) -> io::Result<()> {
-    let mut t = cases::start();
-    let mut at = 0;
-    while at < list.len() {
-        t = turn(rt, t, list, at)?;
-        at = cases::after(list, at);
+impl Program for StreamCases {
+    fn answer(&self, line: &[u8], out: &mut Answer) -> io::Result<()> {
+        let mut input = text_buffer();
+        let mut right = text_buffer();
+        let n = expand(cases::field(line, 2), &mut input);
+        let m = expand(cases::field(line, 3), &mut right);
+        let piece = cases::number(line, 1).min(65536);
+        put_compared(
+            cases::part(&input, 0, n),
+            piece,
+            cases::part(&right, 0, m),
+            out,
+        )
     }
-    cases::report(rt, t, list)
 }
 
 fn main(rt: HostRuntime) -> io::Result<()> {
-    let mut list = cases::list_buffer();
-    let n = cases::load(&rt, &mut list)?;
-    run_list(&rt, &list[..n])
+    cases::run(&rt, "cases.txt", &StreamCases)
 }

@@ -4,210 +4,128 @@
 // and their count, origin AS, origin, local preference, metric; addresses and AS numbers as bytes), and how many bytes are lent.
 #![tactic(auto)]
 
-use cases::Tally;
-use decimal::U32Read;
-use elem::{Element, OptAsn, OptOrigin, Origin};
+use cases::{Answer, Program};
+use elem::{Element, Origin};
 use network::{Asn, IpAddr, NetworkPrefix};
-use output::Put;
-use psv::ElementPut;
+use output::PutError;
+use psv::ElementError;
 use std::io;
+use std::io::Write;
 
-fn word(a: u8, b: u8, c: u8, d: u8) -> u32 {
-    (a as u32) * 16777216 + (b as u32) * 65536 + (c as u32) * 256 + (d as u32)
-}
-
-// The word of four bytes at a place, 0 where there is none.
-fn word_at(s: &[u8], at: usize) -> u32 {
-    if s.len() < 4 {
-        return 0;
-    }
-    if s.len() - 4 < at {
-        return 0;
-    }
-    word(s[at], s[at + 1], s[at + 2], s[at + 3])
-}
-
-fn half(s: &[u8], at: usize) -> u64 {
-    if at < 16 {
-        return (word_at(s, at) as u64) * 4294967296 + (word_at(s, at + 4) as u64);
-    }
-    0
+// The N bytes that hexadecimal digits say from a place on; 0 for those that are not there.
+fn bytes_at<const N: usize>(hex: &[u8], at: usize) -> [u8; N] {
+    let mut bytes = [0; N];
+    cases::hex(cases::part(hex, at, hex.len()), &mut bytes);
+    bytes
 }
 
 // Of 4 or of 16 bytes.
 fn address(hex: &[u8]) -> IpAddr {
-    let mut bytes = [0u8; 16];
-    if cases::hex(hex, &mut bytes) == 4 {
-        return IpAddr::V4(word_at(&bytes, 0));
+    if hex.len() == 8 {
+        return IpAddr::V4(u32::from_be_bytes(bytes_at(hex, 0)));
     }
-    IpAddr::V6(half(&bytes, 0), half(&bytes, 8))
-}
-
-fn words(s: &[u8], out: &mut [u32; 1024]) {
-    let mut i: usize = 0;
-    while i < 1024 {
-        out[i] = word_at(s, i * 4);
-        i += 1;
-    }
+    IpAddr::V6(
+        u64::from_be_bytes(bytes_at(hex, 0)),
+        u64::from_be_bytes(bytes_at(hex, 16)),
+    )
 }
 
 // No NaN can be made of bits; those of one stand for a fraction.
-fn float(bits: u64) -> f64 {
-    if bits % 0x8000_0000_0000_0000 > 0x7ff0_0000_0000_0000 {
-        return 0.5;
-    }
-    f64::from_bits(bits)
+fn timestamp(bits: u64) -> f64 {
+    cases::float(bits).unwrap_or(0.5)
 }
 
 fn low32(n: usize) -> u32 {
-    (n % 4294967296) as u32
+    (n % 0x1_0000_0000) as u32
 }
 
 fn low8(n: usize) -> u8 {
     (n % 256) as u8
 }
 
-fn origin(name: &[u8]) -> OptOrigin {
-    if scan::same(name, b"i") {
-        return OptOrigin::Known(Origin::IGP);
+fn origin(name: &[u8]) -> Option<Origin> {
+    match name {
+        b"i" => Some(Origin::IGP),
+        b"e" => Some(Origin::EGP),
+        b"?" => Some(Origin::INCOMPLETE),
+        _ => None,
     }
-    if scan::same(name, b"e") {
-        return OptOrigin::Known(Origin::EGP);
-    }
-    if scan::same(name, b"?") {
-        return OptOrigin::Known(Origin::INCOMPLETE);
-    }
-    OptOrigin::Nothing
 }
 
-fn origin_asn(number: U32Read) -> OptAsn {
-    let U32Read::Number(n) = number else {
-        return OptAsn::Nothing;
-    };
-    OptAsn::Known(Asn(n))
+fn origin_asn(number: Option<u32>) -> Option<Asn> {
+    number.map(Asn)
 }
 
 fn prefix(line: &[u8]) -> NetworkPrefix {
-    let addr = address(cases::field(line, 6));
     NetworkPrefix {
-        addr,
+        addr: address(cases::field(line, 6)),
         len: low8(cases::number(line, 7)),
     }
 }
 
 fn element(line: &[u8]) -> Element {
-    let timestamp = float(cases::number(line, 3) as u64);
-    let peer_ip = address(cases::field(line, 4));
-    let peer_asn = Asn(low32(cases::number(line, 5)));
-    let prefix = prefix(line);
-    let next_hop = address(cases::field(line, 8));
-    let origin_asn = origin_asn(decimal::read_u32(cases::field(line, 11)));
-    let origin = origin(cases::field(line, 12));
-    let local_pref = decimal::read_u32(cases::field(line, 13));
-    let metric = decimal::read_u32(cases::field(line, 14));
     Element {
-        announce: scan::same(cases::field(line, 2), b"A"),
-        timestamp,
-        peer_ip,
-        peer_asn,
-        prefix,
-        next_hop,
+        announce: matches!(cases::field(line, 2), b"A"),
+        timestamp: timestamp(cases::number(line, 3) as u64),
+        peer_ip: address(cases::field(line, 4)),
+        peer_asn: Asn(low32(cases::number(line, 5))),
+        prefix: prefix(line),
+        next_hop: address(cases::field(line, 8)),
         count: cases::number(line, 10),
-        origin_asn,
-        origin,
-        local_pref,
-        metric,
+        origin_asn: origin_asn(decimal::read_u32(cases::field(line, 11))),
+        origin: origin(cases::field(line, 12)),
+        local_pref: decimal::read_u32(cases::field(line, 13)),
+        metric: decimal::read_u32(cases::field(line, 14)),
     }
 }
 
 // The answer, and all bytes that were lent.
-fn put_answer(out: &mut [u8], word: &[u8], n: usize, bytes: &[u8]) -> usize {
-    let a = cases::put(out, 0, word);
-    let b = cases::put_decimal(out, a, n as u64);
-    let c = cases::put(out, b, b" ");
-    cases::put(out, c, bytes)
-}
-
-fn put_printed(out: &mut [u8], r: ElementPut, bytes: &[u8]) -> usize {
+fn put_printed(r: Result<usize, ElementError>, bytes: &[u8], out: &mut Answer) -> io::Result<()> {
     match r {
-        ElementPut::Wrote(n) => put_answer(out, b"wrote ", n, bytes),
-        ElementPut::Spoilt => put_answer(out, b"refused ", 8, bytes),
-        ElementPut::TooShort => put_answer(out, b"refused ", 9, bytes),
+        Ok(n) => write!(out, "wrote {n} ")?,
+        Err(ElementError::Spoilt) => write!(out, "refused 8 ")?,
+        Err(ElementError::TooShort) => write!(out, "refused 9 ")?,
     }
+    out.write_all(bytes)
 }
 
-fn put_header(out: &mut [u8], r: Put, bytes: &[u8]) -> usize {
+fn put_header(r: Result<usize, PutError>, bytes: &[u8], out: &mut Answer) -> io::Result<()> {
     match r {
-        Put::Wrote(n) => put_answer(out, b"wrote ", n, bytes),
-        Put::TooShort => put_answer(out, b"refused ", 9, bytes),
+        Ok(n) => write!(out, "wrote {n} ")?,
+        Err(PutError::TooShort) => write!(out, "refused 9 ")?,
     }
+    out.write_all(bytes)
 }
 
-fn print(line: &[u8], asns: &[u32], bytes: &mut [u8], out: &mut [u8]) -> usize {
-    let e = element(line);
-    if scan::same(cases::field(line, 1), b"display") {
-        let r = psv::display_element(e, asns, bytes);
-        return put_printed(out, r, bytes);
+struct PsvCases;
+
+impl Program for PsvCases {
+    fn answer(&self, line: &[u8], out: &mut Answer) -> io::Result<()> {
+        let mut room = [b'.'; 16384];
+        let call = cases::field(line, 1);
+        if matches!(call, b"header") {
+            let bytes = path_cases::first_bytes(&mut room, cases::number(line, 2));
+            let r = psv::get_psv_header(bytes);
+            return put_header(r, bytes, out);
+        }
+        let mut s = [0; 4096];
+        let mut numbers = [0; 1024];
+        let n = cases::hex(cases::field(line, 9), &mut s);
+        let (words, _) = s.as_chunks::<4>();
+        for (place, word) in numbers.iter_mut().zip(words) {
+            *place = u32::from_be_bytes(*word);
+        }
+        let asns = path_cases::first_numbers(&numbers, n / 4);
+        let bytes = path_cases::first_bytes(&mut room, cases::number(line, 15));
+        let e = element(line);
+        let r = match call {
+            b"display" => psv::display_element(e, asns, bytes),
+            _ => psv::to_psv(e, asns, bytes),
+        };
+        put_printed(r, bytes, out)
     }
-    let r = psv::to_psv(e, asns, bytes);
-    put_printed(out, r, bytes)
-}
-
-fn print_header(bytes: &mut [u8], out: &mut [u8]) -> usize {
-    let r = psv::get_psv_header(bytes);
-    put_header(out, r, bytes)
-}
-
-fn answer(line: &[u8], asns: &[u32], bytes: &mut [u8], out: &mut [u8]) -> usize {
-    if scan::same(cases::field(line, 1), b"header") {
-        return print_header(path_cases::first_bytes(bytes, cases::number(line, 2)), out);
-    }
-    print(
-        line,
-        asns,
-        path_cases::first_bytes(bytes, cases::number(line, 15)),
-        out,
-    )
-}
-
-// One case, with the buffers for its AS numbers, for what is printed and for the answer.
-fn one(
-    rt: &impl Print,
-    t: Tally,
-    list: &[u8],
-    at: usize,
-    s: &mut [u8],
-    asns: &mut [u32; 1024],
-    bytes: &mut [u8],
-    out: &mut [u8],
-) -> io::Result<Tally> {
-    let line = cases::line(list, at);
-    let n = cases::hex(cases::field(line, 9), s);
-    words(s, asns);
-    let k = answer(line, path_cases::first_numbers(asns, n / 4), bytes, out);
-    cases::count(rt, t, list, at, cases::part(out, 0, k))
-}
-
-fn turn(rt: &impl Print, t: Tally, list: &[u8], at: usize) -> io::Result<Tally> {
-    let mut s = [0; 4096];
-    let mut asns = [0u32; 1024];
-    let mut bytes = [b'.'; 16384];
-    let mut out = [0; 65536];
-    one(rt, t, list, at, &mut s, &mut asns, &mut bytes, &mut out)
-}
-
-fn run(rt: &impl Print, list: &[u8]) -> io::Result<()> {
-    let mut t = cases::start();
-    let mut at = 0;
-    while at < list.len() {
-        t = turn(rt, t, list, at)?;
-        at = cases::after(list, at);
-    }
-    cases::report(rt, t, list)
 }
 
 fn main(rt: HostRuntime) -> io::Result<()> {
-    let mut list = cases::list_buffer();
-    let n = cases::load(&rt, &mut list)?;
-    run(&rt, &list[..n])
+    cases::run(&rt, "cases.txt", &PsvCases)
 }

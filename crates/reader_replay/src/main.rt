@@ -8,9 +8,16 @@ use columns::Columns;
 use cuts::Cut;
 use network::{Asn, IpAddr};
 use plain_calls::{Given, Prefix};
-use replay::Both;
 use std::io;
-use text_dump::{Next, Opened, State};
+use text_dump::{NextError, OpenError, State};
+
+const TIMESTAMP: f64 = 1709251200.0;
+
+// As many calls as read the longest listing here.
+const CALLS: usize = 200;
+
+// How often a listing is cut by chance.
+const SEEDS: u64 = 100;
 
 // What the header of the listings says (01, One listing), and a timestamp.
 fn given() -> Given {
@@ -24,243 +31,120 @@ fn given() -> Given {
         },
         peer_ip: IpAddr::V4(3221226238),
         peer_asn: Asn(64500),
-        timestamp: 1709251200.0,
+        timestamp: TIMESTAMP,
     }
 }
 
 // A call more; where it was wrong, the cut is printed.
 fn counted(rt: &impl Print, t: Tally, right: bool, part: usize, cut: Cut) -> io::Result<Tally> {
     if !right {
-        rt.write_all(b"in part ")?;
-        cases::print_decimal(rt, part as u64)?;
-        rt.write_all(b", cut at")?;
+        print!(rt; "in part {part}, cut at")?;
         cuts::print(rt, cut)?;
     }
     replay::count(rt, t, right)
 }
 
-// A list of calls at work: both readers, and the part at hand.
-#[derive(Clone, Copy)]
-struct Run {
-    both: Both,
-    part: usize,
-    tally: Tally,
-}
-
-fn called(rt: &impl Print, r: Run, both: Both, part: usize, cut: Cut) -> io::Result<Run> {
-    let tally = counted(rt, r.tally, both.right, part, cut)?;
-    Ok(Run { both, part, tally })
-}
-
-// Which call comes next: next with so many places, or 17 for a turn. Without a draw each part is read to its end.
-fn call(said: usize, x: u64) -> usize {
+// The AS places of the next that comes, or none for a turn. Without a draw each part is read to its
+// end.
+fn call(stopped: bool, x: u64) -> Option<usize> {
     if x == 0 {
-        return if said == 0 { 16 } else { 17 };
+        return if stopped { None } else { Some(replay::PLACES) };
     }
-    if (said != 0) & (x % 4 == 0) {
-        return 17;
+    if stopped && x % 4 == 0 {
+        return None;
     }
     match x / 16 % 24 {
-        0 => 17,
-        1 | 2 => 0,
-        3 | 4 => 1,
-        5 | 6 => 2,
-        7 | 8 => 3,
-        _ => 16,
+        0 => None,
+        1 | 2 => Some(0),
+        3 | 4 => Some(1),
+        5 | 6 => Some(2),
+        7 | 8 => Some(3),
+        _ => Some(replay::PLACES),
     }
 }
 
-// One call; a turn past the last part is none.
-fn step(
-    rt: &impl Print,
-    r: Run,
-    text: &[u8],
-    cut: Cut,
-    k: usize,
-    ends: &mut [usize],
-    asns: &mut [u32],
-    places: &mut [u32],
-) -> io::Result<Run> {
-    let both = r.both;
-    let i = r.part;
-    if k < 17 {
-        let here = cuts::part(text, cut, i);
-        let base = cuts::body_at(cut, i);
-        let now = replay::next(rt, both, given(), here, base, ends, k, asns, places)?;
-        return called(rt, r, now, i, cut);
-    }
-    let next = i.wrapping_add(1);
-    if cut.parts <= next {
-        return Ok(r);
-    }
-    let now = replay::turn(rt, both, given(), cuts::part(text, cut, next), ends)?;
-    called(rt, r, now, next, cut)
-}
-
-// As many calls as read the longest listing here.
-fn run_on(
-    rt: &impl Print,
-    start: Run,
-    text: &[u8],
-    cut: Cut,
-    seed: u64,
-    ends: &mut [usize],
-) -> io::Result<Run> {
-    let mut asns = replay::places();
-    let mut places = replay::places();
-    let mut r = start;
-    let mut x = seed;
-    let mut left: usize = 200;
-    while left > 0 {
-        left -= 1;
-        x = cuts::drawn(x);
-        let both = r.both;
-        r = step(
-            rt,
-            r,
-            text,
-            cut,
-            call(both.said, x),
-            ends,
-            &mut asns,
-            &mut places,
-        )?;
-    }
-    Ok(r)
-}
-
-// Opens the first part, and reads each part to its end, or makes the calls that are drawn from the seed.
+// Opens the first part, and reads each part to its end, or makes the calls that are drawn from the
+// seed.
 fn play(rt: &impl Print, t: Tally, text: &[u8], cut: Cut, seed: u64) -> io::Result<Tally> {
-    let mut ends = [0usize; 512];
-    let first = cuts::part(text, cut, 0);
-    let Opened::Table(state) = State::open(first, 1709251200.0) else {
+    let Ok(state) = State::open(cuts::part(text, cut, 0), TIMESTAMP) else {
         return counted(rt, t, false, 0, cut);
     };
-    let both = replay::begin(
-        rt,
-        state,
-        given(),
-        first,
-        cut.header,
-        Prefix::Nothing,
-        &mut ends,
-    )?;
-    let tally = counted(rt, t, both.right, 0, cut)?;
-    let start = Run {
-        both,
-        part: 0,
-        tally,
-    };
-    let r = run_on(rt, start, text, cut, seed, &mut ends)?;
-    Ok(r.tally)
+    let mut both = replay::begin(rt, state, given(), cut.header, Prefix::Nothing)?;
+    let mut t = counted(rt, t, both.right, 0, cut)?;
+    let mut part = 0usize;
+    let mut x = seed;
+    for _ in 0..CALLS {
+        x = cuts::drawn(x);
+        if let Some(k) = call(both.stopped, x) {
+            let here = cuts::part(text, cut, part);
+            both = replay::next(rt, both, here, cuts::body_at(cut, part), k)?;
+        } else {
+            let next = part.wrapping_add(1);
+            if cut.parts <= next {
+                // A turn past the last part is none.
+                continue;
+            }
+            part = next;
+            both = replay::turn(rt, both)?;
+        }
+        t = counted(rt, t, both.right, part, cut)?;
+    }
+    Ok(t)
 }
 
 // Opens a header that ends before its column line does: 2.
 fn open_cut_header(rt: &impl Print, t: Tally, text: &[u8], cut: Cut) -> io::Result<Tally> {
-    let right = match State::open(cuts::part(text, cut, 0), 1709251200.0) {
-        Opened::Table(_) => false,
-        Opened::NoTimestamp => false,
-        Opened::Unreadable(_) => false,
-        Opened::NoColumns => true,
+    let opened = State::open(cuts::part(text, cut, 0), TIMESTAMP);
+    counted(rt, t, matches!(opened, Err(OpenError::NoColumns)), 0, cut)
+}
+
+// Reads the parts, with a turn at the end of any but the last, and the joined body beside them: the
+// same elements, and End.
+fn play_joined(rt: &impl Print, t: Tally, text: &[u8], cut: Cut) -> io::Result<Tally> {
+    let Ok(mut state) = State::open(cuts::part(text, cut, 0), TIMESTAMP) else {
+        return counted(rt, t, false, 0, cut);
     };
-    counted(rt, t, right, 0, cut)
-}
-
-// A reading in parts, and one of the joined body beside it.
-#[derive(Clone, Copy)]
-struct Pair {
-    state: State,
-    joined: State,
-    part: usize,
-    going: bool,
-    tally: Tally,
-}
-
-// What next answered in parts is what it answers in the joined body.
-fn same_in_joined(
-    rt: &impl Print,
-    p: Pair,
-    text: &[u8],
-    cut: Cut,
-    got: Next,
-    asns: &[u32],
-) -> io::Result<Pair> {
-    let mut places = replay::places();
-    let joined = p.joined;
-    let want = joined.next(text, &mut places);
-    let right = replay::same_answer(rt, got, asns, want, &places)?;
-    let tally = counted(rt, p.tally, right, p.part, cut)?;
-    Ok(Pair {
-        state: replay::state_in(got),
-        joined: replay::state_in(want),
-        part: p.part,
-        going: replay::number(got) == 0,
-        tally,
-    })
-}
-
-// One next; at the end of any part but the last comes a turn.
-fn pair_step(rt: &impl Print, p: Pair, text: &[u8], cut: Cut) -> io::Result<Pair> {
-    let mut asns = replay::places();
-    let state = p.state;
-    let i = p.part;
-    let got = state.next(cuts::part(text, cut, i), &mut asns);
-    let next = i.wrapping_add(1);
-    if (replay::number(got) == 255) & (next < cut.parts) {
-        let ended = replay::state_in(got);
-        let mut p = p;
-        p.state = ended.turn();
-        p.part = next;
-        return Ok(p);
-    }
-    same_in_joined(rt, p, text, cut, got, &asns)
-}
-
-fn pair_on(rt: &impl Print, start: Pair, text: &[u8], cut: Cut) -> io::Result<Pair> {
-    let mut p = start;
-    let mut left: usize = 200;
-    while left > 0 {
-        left -= 1;
-        if p.going {
-            p = pair_step(rt, p, text, cut)?;
+    let Ok(mut joined) = State::open(text, TIMESTAMP) else {
+        return counted(rt, t, false, 0, cut);
+    };
+    let mut t = t;
+    let mut part = 0usize;
+    for _ in 0..CALLS {
+        let mut asns = replay::places();
+        let got = state.next(cuts::part(text, cut, part), &mut asns);
+        state = replay::state_in(got);
+        let next = part.wrapping_add(1);
+        if matches!(got, (_, Ok(None))) && next < cut.parts {
+            state = state.turn();
+            part = next;
+            continue;
+        }
+        let mut places = replay::places();
+        let want = joined.next(text, &mut places);
+        joined = replay::state_in(want);
+        let right = replay::same_answer(rt, got, &asns, want, &places)?;
+        t = counted(rt, t, right, part, cut)?;
+        if !matches!(got, (_, Ok(Some(_)))) {
+            break;
         }
     }
-    Ok(p)
-}
-
-// Reads the parts and the joined body: the same elements, and End.
-fn play_joined(rt: &impl Print, t: Tally, text: &[u8], cut: Cut) -> io::Result<Tally> {
-    let Opened::Table(state) = State::open(cuts::part(text, cut, 0), 1709251200.0) else {
-        return counted(rt, t, false, 0, cut);
-    };
-    let Opened::Table(joined) = State::open(text, 1709251200.0) else {
-        return counted(rt, t, false, 0, cut);
-    };
-    let start = Pair {
-        state,
-        joined,
-        part: 0,
-        going: true,
-        tally: t,
-    };
-    let p = pair_on(rt, start, text, cut)?;
-    Ok(p.tally)
+    Ok(t)
 }
 
 // Cut in two at every byte, the header's too.
 fn every_byte(rt: &impl Print, text: &[u8], header: usize) -> io::Result<Tally> {
     let mut t = cases::start();
-    let mut at = 0;
-    while at < text.len() {
+    // The column line needs no line feed.
+    let feed = header.saturating_sub(1);
+    for at in 0..=text.len() {
         let cut = cuts::in_two(text, header, at);
-        at += 1;
-        if at < header {
-            t = open_cut_header(rt, t, text, cut)?;
+        t = if at < feed {
+            open_cut_header(rt, t, text, cut)?
         } else {
-            t = play(rt, t, text, cut, 0)?;
-        }
+            play(rt, t, text, cut, 0)?
+        };
     }
-    play(rt, t, text, cuts::in_two(text, header, at), 0)
+    Ok(t)
 }
 
 // Against the joined body, or against the plain reader.
@@ -280,34 +164,30 @@ fn play_either(
 // Cut in two at every line feed behind the header.
 fn every_line(rt: &impl Print, text: &[u8], header: usize, joined: bool) -> io::Result<Tally> {
     let mut t = cases::start();
-    let mut at = header;
-    while at < text.len() {
-        t = play_either(rt, t, text, cuts::in_two(text, header, at), joined)?;
-        at = cases::after(text, at);
-    }
-    play_either(rt, t, text, cuts::in_two(text, header, at), joined)
-}
-
-// Cut in two to eight parts by chance, 100 times, and read to the end.
-fn some_parts(rt: &impl Print, text: &[u8], header: usize, joined: bool) -> io::Result<Tally> {
-    let mut t = cases::start();
-    let mut seed = 1;
-    while seed <= 100 {
-        let cut = cuts::by_chance(text, header, seed, joined);
-        t = play_either(rt, t, text, cut, joined)?;
-        seed += 1;
+    for at in header..=text.len() {
+        if at == header || at == text.len() || text[at - 1] == b'\n' {
+            t = play_either(rt, t, text, cuts::in_two(text, header, at), joined)?;
+        }
     }
     Ok(t)
 }
 
-// Cut in two to eight parts by chance, at line feeds every other time, with calls that are drawn, 100 times.
+// Cut in two to eight parts by chance, and read to the end.
+fn some_parts(rt: &impl Print, text: &[u8], header: usize, joined: bool) -> io::Result<Tally> {
+    let mut t = cases::start();
+    for seed in 1..=SEEDS {
+        let cut = cuts::by_chance(text, header, seed, joined);
+        t = play_either(rt, t, text, cut, joined)?;
+    }
+    Ok(t)
+}
+
+// Cut in two to eight parts by chance, at line feeds every other time, with calls that are drawn.
 fn some_calls(rt: &impl Print, text: &[u8], header: usize) -> io::Result<Tally> {
     let mut t = cases::start();
-    let mut seed = 1;
-    while seed <= 100 {
+    for seed in 1..=SEEDS {
         let cut = cuts::by_chance(text, header, seed, seed % 2 == 0);
         t = play(rt, t, text, cut, seed)?;
-        seed += 1;
     }
     Ok(t)
 }

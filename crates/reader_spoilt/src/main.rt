@@ -8,7 +8,10 @@ use columns::Columns;
 use network::{Asn, IpAddr, NetworkPrefix};
 use plain_calls::{Given, Prefix};
 use std::io;
-use text_dump::{Next, Remembered, State};
+use text_dump::{NextError, Remembered, State};
+
+// AS places enough for each route here.
+const ENOUGH: usize = replay::PLACES;
 
 fn columns(
     next_hop: usize,
@@ -48,11 +51,11 @@ fn sound_columns(i: usize) -> Columns {
         1 => columns(0, 1, 2, 3, 4),
         2 => columns(20, 21, 22, 23, 24),
         _ => columns(
-            18446744073709551611,
-            18446744073709551612,
-            18446744073709551613,
-            18446744073709551614,
-            18446744073709551615,
+            usize::MAX - 4,
+            usize::MAX - 3,
+            usize::MAX - 2,
+            usize::MAX - 1,
+            usize::MAX,
         ),
     }
 }
@@ -60,9 +63,9 @@ fn sound_columns(i: usize) -> Columns {
 // A NaN, the infinities, negative zero, fractions, and what lies outside the range.
 fn spoilt_timestamp(i: usize) -> f64 {
     match i {
-        0 => 0.0 / 0.0,
-        1 => 1.0 / 0.0,
-        2 => -1.0 / 0.0,
+        0 => f64::NAN,
+        1 => f64::INFINITY,
+        2 => f64::NEG_INFINITY,
         3 => -0.0,
         4 => 0.5,
         5 => -0.5,
@@ -110,8 +113,8 @@ fn sound_prefix(i: usize) -> NetworkPrefix {
 fn spoilt_position(i: usize, n: usize) -> usize {
     match i {
         0 => n.wrapping_add(1),
-        1 => n.wrapping_add(9223372036854775808),
-        _ => 18446744073709551615,
+        1 => n.wrapping_add(1 << 63),
+        _ => usize::MAX,
     }
 }
 
@@ -123,21 +126,6 @@ fn state(columns: Columns, timestamp: f64, prefix: NetworkPrefix, position: usiz
         timestamp,
         remembered: Remembered::Valid(prefix),
         position,
-    }
-}
-
-// A state that is spoilt in the i-th way of a kind, for a part of n bytes.
-fn spoilt(kind: usize, i: usize, n: usize) -> State {
-    match kind {
-        0 => state(
-            sound_columns(0),
-            0.0,
-            sound_prefix(0),
-            spoilt_position(i, n),
-        ),
-        1 => state(spoilt_columns(i), 0.0, sound_prefix(0), 0),
-        2 => state(sound_columns(0), spoilt_timestamp(i), sound_prefix(0), 0),
-        _ => state(sound_columns(0), 0.0, spoilt_prefix(i), 0),
     }
 }
 
@@ -153,39 +141,48 @@ fn part(text: &[u8], i: usize) -> &[u8] {
 
 // No AS places, or enough.
 fn room(i: usize) -> usize {
-    if i % 2 == 0 { 0 } else { 16 }
+    if i % 2 == 0 { 0 } else { ENOUGH }
 }
 
 // Next says 5, and all is as it was.
 fn next_refuses(rt: &impl Print, t: Tally, s: State, part: &[u8], k: usize) -> io::Result<Tally> {
     let mut asns = replay::places();
     let got = replay::next_with(s, part, k, &mut asns);
-    let right = replay::same_next(rt, got, &asns, Next::Spoilt(s), &replay::places())?;
+    let right = replay::same_next(
+        rt,
+        got,
+        &asns,
+        (s, Err(NextError::Spoilt)),
+        &replay::places(),
+    )?;
     replay::count(rt, t, right)
 }
 
 // Turn never refuses: the position is 0, and the rest as it was.
 fn turn_turns(rt: &impl Print, t: Tally, s: State) -> io::Result<Tally> {
-    let mut want = s;
-    want.position = 0;
+    let want = State { position: 0, ..s };
     let right = replay::same_state(rt, s.turn(), want)?;
     replay::count(rt, t, right)
 }
 
-// The i-th case of a kind: each way has eight, a call on each part, without places and with enough.
-fn refused(rt: &impl Print, t: Tally, text: &[u8], kind: usize, i: usize) -> io::Result<Tally> {
-    let here = part(text, i);
-    let s = spoilt(kind, i / 8, here.len());
-    let next = next_refuses(rt, t, s, here, room(i / 4))?;
-    turn_turns(rt, next, s)
-}
-
-fn all_refused(rt: &impl Print, text: &[u8], kind: usize, count: usize) -> io::Result<Tally> {
+// Each way to spoil a state, by a part's length, has eight cases: a call on each part, without places
+// and with enough.
+fn all_refused<F: Fn(usize, usize) -> State>(
+    rt: &impl Print,
+    text: &[u8],
+    ways: usize,
+    spoilt: F,
+) -> io::Result<Tally>
+    requires { F.IsAlwaysCallable spoilt }
+{
     let mut t = cases::start();
-    let mut i = 0;
-    while i < count {
-        t = refused(rt, t, text, kind, i)?;
-        i += 1;
+    for way in 0..ways {
+        for i in 0..8 {
+            let here = part(text, i);
+            let s = spoilt(way, here.len());
+            t = next_refuses(rt, t, s, here, room(i / 4))?;
+            t = turn_turns(rt, t, s)?;
+        }
     }
     Ok(t)
 }
@@ -209,25 +206,10 @@ fn next_reads(
     position: usize,
     k: usize,
 ) -> io::Result<Tally> {
-    let mut ends = [0usize; 8];
-    let mut asns = replay::places();
-    let mut places = replay::places();
-    let columns = g.columns;
-    let timestamp = g.timestamp;
-    let s = state(columns, timestamp, p, position);
-    let both = replay::begin(rt, s, g, part, position, Prefix::Valid(p), &mut ends)?;
-    let now = replay::next(
-        rt,
-        both,
-        g,
-        part,
-        position,
-        &ends,
-        k,
-        &mut asns,
-        &mut places,
-    )?;
-    replay::count(rt, t, both.right & now.right)
+    let s = state(g.columns, g.timestamp, p, position);
+    let both = replay::begin(rt, s, g, position, Prefix::Valid(p))?;
+    let now = replay::next(rt, both, part, position, k)?;
+    replay::count(rt, t, both.right && now.right)
 }
 
 // The i-th case of states at an edge: the columns', the timestamp's, the prefix's.
@@ -241,48 +223,56 @@ fn read(rt: &impl Print, t: Tally, text: &[u8], i: usize) -> io::Result<Tally> {
     next_reads(rt, b, given(c, 0.0), sound_prefix(i / 8), here, 0, k)
 }
 
-fn all_read(rt: &impl Print, text: &[u8], count: usize) -> io::Result<Tally> {
+fn all_read(rt: &impl Print, text: &[u8]) -> io::Result<Tally> {
     let mut t = cases::start();
-    let mut i = 0;
-    while i < count {
+    for i in 0..32 {
         t = read(rt, t, text, i)?;
-        i += 1;
     }
     Ok(t)
 }
 
-// Every position in each part, its end too.
-fn positions_read(rt: &impl Print, text: &[u8], i: usize) -> io::Result<Tally> {
+// Every position in a part, its end too.
+fn positions_read(rt: &impl Print, here: &[u8]) -> io::Result<Tally> {
     let mut t = cases::start();
-    let here = part(text, i);
     let g = given(sound_columns(0), 0.0);
-    let mut at = 0;
-    while at < here.len() {
-        t = next_reads(rt, t, g, sound_prefix(0), here, at, 16)?;
-        at += 1;
+    for at in 0..here.len() {
+        t = next_reads(rt, t, g, sound_prefix(0), here, at, ENOUGH)?;
     }
-    next_reads(rt, t, g, sound_prefix(0), here, at, 0)
+    next_reads(rt, t, g, sound_prefix(0), here, here.len(), 0)
 }
 
 // The states that are refused, on the text.
 fn all_spoilt(rt: &impl Print, text: &[u8]) -> io::Result<()> {
-    let position = all_refused(rt, text, 0, 24)?;
+    let position = all_refused(rt, text, 3, |i, n| {
+        state(
+            sound_columns(0),
+            0.0,
+            sound_prefix(0),
+            spoilt_position(i, n),
+        )
+    })?;
     cases::report(rt, position, b"position")?;
-    let columns = all_refused(rt, text, 1, 80)?;
+    let columns = all_refused(rt, text, 10, |i, _n| {
+        state(spoilt_columns(i), 0.0, sound_prefix(0), 0)
+    })?;
     cases::report(rt, columns, b"columns")?;
-    let timestamp = all_refused(rt, text, 2, 96)?;
+    let timestamp = all_refused(rt, text, 12, |i, _n| {
+        state(sound_columns(0), spoilt_timestamp(i), sound_prefix(0), 0)
+    })?;
     cases::report(rt, timestamp, b"timestamp")?;
-    let prefix = all_refused(rt, text, 3, 40)?;
+    let prefix = all_refused(rt, text, 5, |i, _n| {
+        state(sound_columns(0), 0.0, spoilt_prefix(i), 0)
+    })?;
     cases::report(rt, prefix, b"prefix")
 }
 
 // Those that are not.
 fn all_sound(rt: &impl Print, text: &[u8]) -> io::Result<()> {
-    let edges = all_read(rt, text, 32)?;
+    let edges = all_read(rt, text)?;
     cases::report(rt, edges, b"edges")?;
-    let positions = positions_read(rt, text, 2)?;
+    let positions = positions_read(rt, part(text, 2))?;
     cases::report(rt, positions, b"positions")?;
-    let unreadable = positions_read(rt, text, 3)?;
+    let unreadable = positions_read(rt, part(text, 3))?;
     cases::report(rt, unreadable, b"positions_unreadable")
 }
 

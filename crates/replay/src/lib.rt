@@ -4,115 +4,128 @@
 use cases::Tally;
 use columns::Columns;
 use elem::Element;
-use plain_calls::{Answer, Given, Plain, Prefix};
-use psv::ElementPut;
+use plain_calls::{Given, Plain, Prefix, Refusal};
+use psv::ElementError;
 use std::io;
-use text_dump::{Next, Remembered, State};
+use std::io::{Cursor, Write};
+use text_dump::{NextError, Remembered, State};
 
-// A float by its bits.
-fn put_float(out: &mut [u8], at: usize, x: f64) -> usize {
-    if x == x {
-        cases::put_decimal(out, at, x.to_bits())
-    } else {
-        cases::put(out, at, b"nan")
-    }
+// What next answers, with the state that it leaves.
+pub type Next = (State, Result<Option<Element>, NextError>);
+
+// How many AS places are lent.
+pub const PLACES: usize = 16;
+
+// The most bytes of a text, or of an address or a prefix in it.
+const TEXT: usize = 4096;
+
+const SHORT: usize = 128;
+
+type Text = Cursor<[u8; TEXT]>;
+
+fn put_columns(c: Columns, out: &mut Text) -> io::Result<()> {
+    let Columns {
+        next_hop,
+        metric,
+        local_pref,
+        weight,
+        path,
+    } = c;
+    write!(out, " {next_hop} {metric} {local_pref} {weight} {path}")
 }
 
-fn put_number(out: &mut [u8], at: usize, n: usize) -> usize {
-    let k = cases::put(out, at, b" ");
-    cases::put_decimal(out, k, n as u64)
-}
-
-fn put_columns(out: &mut [u8], at: usize, c: Columns) -> usize {
-    let a = put_number(out, at, c.next_hop);
-    let b = put_number(out, a, c.metric);
-    let d = put_number(out, b, c.local_pref);
-    let e = put_number(out, d, c.weight);
-    put_number(out, e, c.path)
-}
-
-fn put_remembered(out: &mut [u8], at: usize, m: Remembered) -> usize {
+fn put_remembered(m: Remembered, out: &mut Text) -> io::Result<()> {
     match m {
-        Remembered::Nothing => cases::put(out, at, b" nothing"),
-        Remembered::Invalid => cases::put(out, at, b" invalid"),
+        Remembered::Nothing => write!(out, " nothing"),
+        Remembered::Invalid => write!(out, " invalid"),
         Remembered::Valid(p) => {
-            let k = cases::put(out, at, b" ");
-            network_display::write_prefix(p, out, k)
+            let mut text = [0; SHORT];
+            let n = network_display::write_prefix(p, &mut text, 0);
+            write!(out, " ")?;
+            out.write_all(cases::part(&text, 0, n))
         }
     }
 }
 
-fn put_peer(out: &mut [u8], at: usize, s: State) -> usize {
-    let peer_ip = s.peer_ip;
-    let peer_asn = s.peer_asn;
-    let timestamp = s.timestamp;
-    let a = cases::put(out, at, b" ");
-    let b = network_display::write_address(peer_ip, out, a);
-    let c = put_number(out, b, peer_asn.0 as usize);
-    let d = cases::put(out, c, b" ");
-    put_float(out, d, timestamp)
+fn put_peer(s: State, out: &mut Text) -> io::Result<()> {
+    let mut text = [0; SHORT];
+    let n = network_display::write_address(s.peer_ip, &mut text, 0);
+    write!(out, " ")?;
+    out.write_all(cases::part(&text, 0, n))?;
+    write!(out, " {}", s.peer_asn.0)
+}
+
+// A float by its bits.
+fn put_float(x: f64, out: &mut Text) -> io::Result<()> {
+    if x.is_nan() {
+        write!(out, " nan")
+    } else {
+        write!(out, " {}", x.to_bits())
+    }
 }
 
 // Every field of a state.
-fn put_state(out: &mut [u8], at: usize, s: State) -> usize {
-    let columns = s.columns;
-    let remembered = s.remembered;
-    let a = put_number(out, at, s.position);
-    let b = put_remembered(out, a, remembered);
-    let c = put_peer(out, b, s);
-    put_columns(out, c, columns)
+fn put_state(s: State, out: &mut Text) -> io::Result<()> {
+    write!(out, " {}", s.position)?;
+    put_remembered(s.remembered, out)?;
+    put_peer(s, out)?;
+    put_float(s.timestamp, out)?;
+    put_columns(s.columns, out)
 }
 
 // An element by its line.
-fn put_element(out: &mut [u8], at: usize, e: Element, asns: &[u32]) -> usize {
-    let mut line = [0; 4096];
-    let ElementPut::Wrote(n) = psv::to_psv(e, asns, &mut line) else {
-        return cases::put(out, at, b"no line");
-    };
-    cases::put(out, at, cases::part(&line, 0, n))
-}
-
-// The number of an answer: 0 an element, 255 End.
-pub fn number(n: Next) -> usize {
-    match n {
-        Next::Element(_, _) => 0,
-        Next::End(_) => 255,
-        Next::Spoilt(_) => 5,
-        Next::Unreadable(_) => 6,
-        Next::TooFewPlaces(_) => 7,
+fn put_element(e: Element, asns: &[u32], out: &mut Text) -> io::Result<()> {
+    let mut line = [0; TEXT];
+    match psv::to_psv(e, asns, &mut line) {
+        Ok(n) => out.write_all(cases::part(&line, 0, n)),
+        Err(ElementError::Spoilt) | Err(ElementError::TooShort) => write!(out, "no line"),
     }
 }
 
 pub fn state_in(n: Next) -> State {
     match n {
-        Next::Element(s, _) => s,
-        Next::End(s) => s,
-        Next::Spoilt(s) => s,
-        Next::Unreadable(s) => s,
-        Next::TooFewPlaces(s) => s,
+        (s, Ok(Some(_)))
+        | (s, Ok(None))
+        | (s, Err(NextError::Spoilt))
+        | (s, Err(NextError::Unreadable))
+        | (s, Err(NextError::TooFewPlaces)) => s,
     }
 }
 
-// The number of an answer, and its element.
-fn put_answer(out: &mut [u8], n: Next, asns: &[u32]) -> usize {
-    let k = put_number(out, 0, number(n));
-    let Next::Element(_, e) = n else {
-        return k;
-    };
-    let m = cases::put(out, k, b" ");
-    put_element(out, m, e, asns)
+// The element of an answer, or what else it is.
+fn put_answer(n: Next, asns: &[u32], out: &mut Text) -> io::Result<()> {
+    match n {
+        (_, Ok(Some(e))) => put_element(e, asns, out),
+        (_, Ok(None)) => write!(out, "end"),
+        (_, Err(NextError::Spoilt)) => write!(out, "5"),
+        (_, Err(NextError::Unreadable)) => write!(out, "6"),
+        (_, Err(NextError::TooFewPlaces)) => write!(out, "7"),
+    }
 }
 
 // What next answered, with every field of the state and every place of the list.
-fn put_next(out: &mut [u8], n: Next, asns: &[u32]) -> usize {
-    let a = put_answer(out, n, asns);
-    let b = put_state(out, a, state_in(n));
-    cases::put_places(out, b, b" ", asns)
+fn put_next(n: Next, asns: &[u32], out: &mut Text) -> io::Result<()> {
+    put_answer(n, asns, out)?;
+    put_state(state_in(n), out)?;
+    for asn in asns {
+        write!(out, " {asn}")?;
+    }
+    Ok(())
+}
+
+fn text() -> Text {
+    Cursor::new([0; TEXT])
+}
+
+fn written(text: &Text) -> &[u8] {
+    cases::part(text.get_ref(), 0, text.position() as usize)
 }
 
 // Whether two texts are the same; where they are not, both are printed.
-fn same(rt: &impl Print, got: &[u8], want: &[u8]) -> io::Result<bool> {
-    if scan::same(got, want) {
+fn same(rt: &impl Print, got: &Text, want: &Text) -> io::Result<bool> {
+    let got = written(got);
+    let want = written(want);
+    if got == want {
         return Ok(true);
     }
     rt.write_all(b"  is: ")?;
@@ -123,7 +136,7 @@ fn same(rt: &impl Print, got: &[u8], want: &[u8]) -> io::Result<bool> {
     Ok(false)
 }
 
-// Whether next gave this element, or this number.
+// Whether next gave this element, or this refusal.
 pub fn same_answer(
     rt: &impl Print,
     got: Next,
@@ -131,11 +144,11 @@ pub fn same_answer(
     want: Next,
     places: &[u32],
 ) -> io::Result<bool> {
-    let mut a = [0; 4096];
-    let mut b = [0; 4096];
-    let m = put_answer(&mut a, got, asns);
-    let n = put_answer(&mut b, want, places);
-    same(rt, cases::part(&a, 0, m), cases::part(&b, 0, n))
+    let mut a = text();
+    let mut b = text();
+    put_answer(got, asns, &mut a)?;
+    put_answer(want, places, &mut b)?;
+    same(rt, &a, &b)
 }
 
 // Whether next answered as it should, with every field and every place.
@@ -146,116 +159,83 @@ pub fn same_next(
     want: Next,
     places: &[u32],
 ) -> io::Result<bool> {
-    let mut a = [0; 4096];
-    let mut b = [0; 4096];
-    let m = put_next(&mut a, got, asns);
-    let n = put_next(&mut b, want, places);
-    same(rt, cases::part(&a, 0, m), cases::part(&b, 0, n))
+    let mut a = text();
+    let mut b = text();
+    put_next(got, asns, &mut a)?;
+    put_next(want, places, &mut b)?;
+    same(rt, &a, &b)
 }
 
 pub fn same_state(rt: &impl Print, got: State, want: State) -> io::Result<bool> {
-    let mut a = [0; 4096];
-    let mut b = [0; 4096];
-    let m = put_state(&mut a, 0, got);
-    let n = put_state(&mut b, 0, want);
-    same(rt, cases::part(&a, 0, m), cases::part(&b, 0, n))
+    let mut a = text();
+    let mut b = text();
+    put_state(got, &mut a)?;
+    put_state(want, &mut b)?;
+    same(rt, &a, &b)
 }
 
 // The state that the plain reader's asks for, where its part begins at `base` in the text that next is lent.
-fn state_of(given: Given, plain: Plain, ends: &[usize], base: usize) -> State {
-    let columns = given.columns;
-    let peer_ip = given.peer_ip;
-    let peer_asn = given.peer_asn;
-    let timestamp = given.timestamp;
-    let prefix = plain.prefix;
-    let taken = plain_calls::end_of(ends, plain.taken);
+fn state_of(given: Given, plain: Plain, base: usize) -> State {
     State {
-        columns,
-        peer_ip,
-        peer_asn,
-        timestamp,
-        remembered: match prefix {
+        columns: given.columns,
+        peer_ip: given.peer_ip,
+        peer_asn: given.peer_asn,
+        timestamp: given.timestamp,
+        remembered: match plain.prefix {
             Prefix::Nothing => Remembered::Nothing,
             Prefix::Invalid => Remembered::Invalid,
             Prefix::Valid(p) => Remembered::Valid(p),
         },
-        position: base.wrapping_add(taken),
+        position: base.wrapping_add(plain.taken),
     }
 }
 
 // The answer that the plain reader's asks for.
-fn next_of(answer: Answer, state: State) -> Next {
+fn next_of(answer: Result<Option<Element>, Refusal>, state: State) -> Next {
     match answer {
-        Answer::Element(e) => Next::Element(state, e),
-        Answer::End => Next::End(state),
-        Answer::Unreadable => Next::Unreadable(state),
-        Answer::TooFewPlaces => Next::TooFewPlaces(state),
+        Ok(element) => (state, Ok(element)),
+        Err(Refusal::Unreadable) => (state, Err(NextError::Unreadable)),
+        Err(Refusal::TooFewPlaces) => (state, Err(NextError::TooFewPlaces)),
     }
 }
 
-// 16 AS places, and what they hold at first.
-pub fn places() -> [u32; 16] {
-    [305419896; 16]
+// The AS places, and what they hold at first.
+pub fn places() -> [u32; PLACES] {
+    [305419896; PLACES]
 }
 
 // Next with the first k places of the list.
 pub fn next_with(state: State, part: &[u8], k: usize, asns: &mut [u32]) -> Next {
-    if asns.len() < k {
-        return state.next(part, asns);
-    }
+    let k = k.min(asns.len());
     state.next(part, &mut asns[..k])
 }
 
 // A case more in a group, which was right or not.
 pub fn count(rt: &impl Print, t: Tally, right: bool) -> io::Result<Tally> {
-    let mut t = t;
-    t.cases = t.cases.wrapping_add(1);
+    let cases = t.cases.wrapping_add(1);
     if right {
-        return Ok(t);
+        return Ok(Tally { cases, ..t });
     }
-    t.mismatches = t.mismatches.wrapping_add(1);
-    rt.write_all(b"mismatch: case ")?;
-    cases::print_decimal(rt, t.cases)?;
-    rt.write_all(b" of the group\n")?;
-    Ok(t)
+    println!(rt; "mismatch: case {cases} of the group")?;
+    Ok(Tally {
+        cases,
+        mismatches: t.mismatches.wrapping_add(1),
+        ..t
+    })
 }
 
-// Both readers behind a call: the number that next answered, and whether the call did what it had to.
+// Both readers behind a call, and the AS places of each.
 #[derive(Clone, Copy)]
 pub struct Both {
+    pub given: Given,
     pub state: State,
     pub plain: Plain,
-    pub said: usize,
+    pub asns: [u32; PLACES],
+    pub places: [u32; PLACES],
+    // Whether the call was a next that gave no element.
+    pub stopped: bool,
+    // Whether it did what it had to.
     pub right: bool,
-}
-
-// Next with k places, on a part whose body begins at `base`.
-pub fn next(
-    rt: &impl Print,
-    b: Both,
-    given: Given,
-    part: &[u8],
-    base: usize,
-    ends: &[usize],
-    k: usize,
-    asns: &mut [u32],
-    places: &mut [u32],
-) -> io::Result<Both> {
-    let state = b.state;
-    let before = b.plain;
-    let body = cases::part(part, base, part.len());
-    let step = plain_calls::next(given, before, body, ends, k, places);
-    let answer = step.answer;
-    let plain = step.plain;
-    let got = next_with(state, part, k, asns);
-    let want = next_of(answer, state_of(given, plain, ends, base));
-    let right = same_next(rt, got, asns, want, places)?;
-    Ok(Both {
-        state: state_in(got),
-        plain,
-        said: number(got),
-        right,
-    })
 }
 
 // Opening, which gave this state, with a body that begins at `base`; or a state put together by hand.
@@ -263,31 +243,46 @@ pub fn begin(
     rt: &impl Print,
     state: State,
     given: Given,
-    part: &[u8],
     base: usize,
     prefix: Prefix,
-    ends: &mut [usize],
 ) -> io::Result<Both> {
-    let plain = plain_calls::turned(cases::part(part, base, part.len()), ends, prefix);
-    let right = same_state(rt, state, state_of(given, plain, ends, base))?;
+    let plain = Plain { taken: 0, prefix };
     Ok(Both {
+        given,
         state,
         plain,
-        said: 0,
-        right,
+        asns: places(),
+        places: places(),
+        stopped: false,
+        right: same_state(rt, state, state_of(given, plain, base))?,
     })
 }
 
-// Turn to a part.
-pub fn turn(
-    rt: &impl Print,
-    b: Both,
-    given: Given,
-    part: &[u8],
-    ends: &mut [usize],
-) -> io::Result<Both> {
-    let state = b.state;
-    let before = b.plain;
-    let prefix = before.prefix;
-    begin(rt, state.turn(), given, part, 0, prefix, ends)
+// Next with k places, on a part whose body begins at `base`.
+pub fn next(rt: &impl Print, b: Both, part: &[u8], base: usize, k: usize) -> io::Result<Both> {
+    let mut b = b;
+    let body = cases::part(part, base, part.len());
+    let answer = plain_calls::next(b.given, &mut b.plain, body, k, &mut b.places);
+    let got = next_with(b.state, part, k, &mut b.asns);
+    let want = next_of(answer, state_of(b.given, b.plain, base));
+    b.state = state_in(got);
+    b.stopped = !matches!(got, (_, Ok(Some(_))));
+    b.right = same_next(rt, got, &b.asns, want, &b.places)?;
+    Ok(b)
+}
+
+// Turn to the next part.
+pub fn turn(rt: &impl Print, b: Both) -> io::Result<Both> {
+    let state = b.state.turn();
+    let plain = Plain {
+        taken: 0,
+        ..b.plain
+    };
+    Ok(Both {
+        state,
+        plain,
+        stopped: false,
+        right: same_state(rt, state, state_of(b.given, plain, 0))?,
+        ..b
+    })
 }

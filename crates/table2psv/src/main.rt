@@ -16,7 +16,7 @@ struct Turn {
 
 // The first n bytes.
 fn first(s: &[u8], n: usize) -> &[u8] {
-    if s.len() < n { s } else { &s[..n] }
+    &s[..n.min(s.len())]
 }
 
 // Reads behind the bytes that are there, as many as one read gives: how many there are then.
@@ -33,42 +33,26 @@ fn read<R: Read>(reader: &mut R, t: Turn, input: &mut [u8]) -> io::Result<Turn> 
         return Ok(t);
     }
     let filled = read_more(reader, input, t.filled)?;
-    let phase = t.phase;
     Ok(Turn {
-        phase,
         filled,
-        starved: true,
         ended: filled == t.filled,
+        ..t
     })
 }
 
 // Runs over the bytes that are there, prints, and moves those that are not consumed to the front.
 fn print(rt: &impl Print, t: Turn, input: &mut [u8], out: &mut [u8]) -> io::Result<Turn> {
-    let phase = t.phase;
-    let filled = t.filled;
-    let ended = t.ended;
-    let ran = psv_stream::run(phase, first(input, filled), ended, out);
-    let next = ran.phase;
-    let consumed = ran.consumed;
+    let ran = psv_stream::run(t.phase, first(input, t.filled), t.ended, out);
     rt.write_all(first(out, ran.written))?;
     Ok(Turn {
-        phase: next,
-        filled: input::keep(input, consumed, filled),
+        phase: ran.phase,
+        filled: input::keep(input, ran.consumed, t.filled),
         starved: ran.starved,
-        ended,
+        ..t
     })
 }
 
-fn is_stopped(phase: Phase) -> bool {
-    match phase {
-        Phase::Path => false,
-        Phase::Header(_, _, _) => false,
-        Phase::Body(_, _) => false,
-        Phase::Stopped => true,
-    }
-}
-
-// A count of turns stands for the input's end, of which nothing is known: it is never reached.
+// Nothing is known of the input's end, so the turns have a bound, which is never reached.
 fn print_all<R: Read>(
     rt: &impl Print,
     reader: &mut R,
@@ -81,15 +65,12 @@ fn print_all<R: Read>(
         starved: true,
         ended: false,
     };
-    let mut turns: u64 = 18446744073709551615;
-    while 0 < turns {
-        let more = read(reader, t, input)?;
-        t = print(rt, more, input, out)?;
-        let phase = t.phase;
-        if is_stopped(phase) {
+    for _ in 0..u64::MAX {
+        t = read(reader, t, input)?;
+        t = print(rt, t, input, out)?;
+        if matches!(t.phase, Phase::Stopped) {
             return Ok(());
         }
-        turns -= 1;
     }
     Ok(())
 }

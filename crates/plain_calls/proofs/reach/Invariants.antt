@@ -1,8 +1,0 @@
-use Rattle.std.proofs.Common.{◌-◌}
-use Rattle.plain_calls.proofs.reach.Given as goal
-
-abbrev pub invariant-loop-n : goal.invariant-loop-n
-invariant-loop-n l = Unit {0}
-
-abbrev pub decreases-loop-n : goal.decreases-loop-n
-decreases-loop-n l = l.lines - l.n

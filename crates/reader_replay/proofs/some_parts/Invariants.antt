@@ -1,5 +1,0 @@
-use Rattle.std.proofs.Common.{◌-◌}
-use Rattle.reader_replay.proofs.some_parts.Given as goal
-
-abbrev pub decreases-loop-seed : goal.decreases-loop-seed
-decreases-loop-seed g l = 101 - l.seed
