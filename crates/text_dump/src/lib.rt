@@ -34,7 +34,7 @@ pub struct State {
     pub position: usize,
 }
 
-// The state, or a refusal; that of an unreadable line has the line's number.
+// Why no table is opened (01, Where a call says no): 4, 1 with the number of the unreadable line, 2.
 #[derive(Debug, Clone, Copy, PartialEq, Eq)]
 pub enum OpenError {
     NoTimestamp,
@@ -52,7 +52,7 @@ impl From<HeaderError> for OpenError {
     }
 }
 
-// The state behind the element's line or at the part's end; in a refusal the one that was handed in.
+// Why next refuses (01, Where a call says no): 5, 6, 7.
 #[derive(Debug, Clone, Copy, PartialEq, Eq)]
 pub enum NextError {
     Spoilt,
@@ -195,7 +195,8 @@ impl State {
         )
     }
 
-    // Passes lines until one yields. An element's AS numbers stand in the lent list from place 0 on. The loop is not a function of its own: what it
+    // Passes lines until one yields. The state is that after the element's line or at the part's end, and in a refusal the one that
+    // was handed in. An element's AS numbers stand in the lent list from place 0 on. The loop is not a function of its own: what it
     // comes to would cross through an enum whose variants do not lie alike.
     pub fn next(self, part: &[u8], asns: &mut [u32]) -> (State, Result<Option<Element>, NextError>)
         ensures { Answers (next_of self part.now (length asns.old)) asns.old result asns.new }

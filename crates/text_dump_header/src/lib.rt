@@ -134,7 +134,7 @@ pub struct TextDumpHeader {
     pub columns: Option<Columns>,
 }
 
-// The header and the position behind its last line, or the number of an unreadable line.
+// Why the scan of the header stops: an unreadable line, by its number.
 #[derive(Debug, Clone, Copy, PartialEq, Eq)]
 pub enum HeaderError {
     Unreadable(usize),
@@ -154,6 +154,7 @@ fn header_of(p: Preamble, columns: Option<Columns>) -> TextDumpHeader
     }
 }
 
+// The header, and the position after its last line.
 pub fn parse_header(text: &[u8]) -> Result<(TextDumpHeader, usize), HeaderError>
     ensures { result ≡ header text.now }
 {
@@ -164,6 +165,7 @@ pub fn parse_header(text: &[u8]) -> Result<(TextDumpHeader, usize), HeaderError>
     };
     let mut at = 0;
     let mut met: usize = 0;
+    // Stays a loop: 01 names the form, a loop over the header's lines that yields by break.
     let columns = 'lines: loop {
         let all_scanned = met == 64;
         if all_scanned {
