@@ -9,8 +9,10 @@ use lib.ListN.{length, get_or, drop, length-append, length-map, drop_of_length-l
 use borrow.Author.Tests.{le-leb, lt-leb}
 use lib.Seq.{drop-cons}
 use Rattle.decimal_display.specs.Printed.{decimal}
-use Rattle.output.specs.Output.{Written}
-use Rattle.output.proofs.Output.{Left, next_left_lem, none_left, nothing, kept, whole}
+use Rattle.output.specs.Writing.{Writes}
+use Rattle.output.specs.declared.Writer.{Writer}
+use Rattle.output.proofs.Writing.{Left, next_left, none_left, nothing, place, put}
+use Rattle.output.proofs.Output.{kept}
 use Rattle.std.specs.Prelude.{Some, Ok, Err}
 use Rattle.aspath.specs.Record.{Segment, cut}
 use Rattle.aspath.proofs.Record.{cut_kinds}
@@ -25,11 +27,8 @@ module _ (sep n m most : ℕ) (t : List ℕ) (e : n ≡ length t) (h : n ≤ m) 
   pub other_len : m + 1 ≤ most → first ≡ false → Measured (lead first sep ++ t) most (1 + n)
   other_len i f = record { is = rw f (omega arith); small = omega arith }
 
-pub first_lead : (sep : ℕ) (out : List ℕ) (at : ℕ) (b : Bool) → b ≡ true → Written (lead b sep) out at out at
-first_lead sep out at b f = rw f (nothing out at)
-
-pub other_lead : (sep : ℕ) (out o : List ℕ) (at a : ℕ) (b : Bool) → b ≡ false → Written (sep ∷ []) out at o a → Written (lead b sep) out at o a
-other_lead sep out o at a b f w = rw f w
+pub first_lead : (sep : ℕ) (w : Writer) (b : Bool) → b ≡ true → Writes (lead b sep) w w
+first_lead sep w b f = rw f (nothing w)
 
 module _ {A : Type 0} (f : A → List ℕ) (sep : ℕ) (first : Bool) (s : List A) (i : ℕ) where
   separated_more : (d : A) → i < length s → separated sep f first (drop i s) ≡ lead first sep ++ f (get_or s i d) ++ separated sep f false (drop (i + 1) s)
@@ -49,12 +48,12 @@ module _ {A : Type 0} (f : A → List ℕ) (sep : ℕ) (first : Bool) (s : List 
     len_end h = omega (arith, ap length (separated_end h))
 
   -- written
-  module _ (t out₀ out : List ℕ) (at₀ at : ℕ) (known : Left t out₀ at₀ (separated sep f first (drop i s)) out at) where
-    pub write_more : (d : A) → i < length s → (o : List ℕ) (a : ℕ) → Written (lead first sep ++ f (get_or s i d)) out at o a
-        → Left t out₀ at₀ (separated sep f false (drop (i + 1) s)) o a
-    write_more d h o a w = next_left_lem (rw (← separated_more d h) known) w
+  module _ (t : List ℕ) (w₀ w : Writer) (known : Left t w₀ (separated sep f first (drop i s)) w) where
+    pub write_more : (d : A) → i < length s → (v : Writer) → Writes (lead first sep ++ f (get_or s i d)) w v
+        → Left t w₀ (separated sep f false (drop (i + 1) s)) v
+    write_more d h v c = next_left (rw (← separated_more d h) known) c
 
-    pub write_end : length s ≤ i → Written t out₀ at₀ out at
+    pub write_end : length s ≤ i → Writes t w₀ w
     write_end h = none_left (rw (← separated_end h) known)
 
 -- a segment's text, by its kind's number
@@ -74,15 +73,14 @@ unfolding segment_text
 sequence_len part n w =
     let m : Measured (separated 32 decimal true part) 344066 n = record { is = w.is; small = omega (arith, w.small) } in (m, m)
 
-pub set_written : (part out o : List ℕ) (at a : ℕ) → Written (set part) out at o a
-    → Written (segment_text 1 part) out at o a × Written (segment_text 3 part) out at o a
+pub set_written : (part : List ℕ) (w v : Writer) → Writes (set part) w v → Writes (segment_text 1 part) w v × Writes (segment_text 3 part) w v
 unfolding segment_text
-set_written part out o at a w = (w, w)
+set_written part w v c = (c, c)
 
-pub sequence_written : (part out o : List ℕ) (at a : ℕ) → Written (separated 32 decimal true part) out at o a
-    → Written (segment_text 0 part) out at o a × Written (segment_text 2 part) out at o a
+pub sequence_written : (part : List ℕ) (w v : Writer) → Writes (separated 32 decimal true part) w v
+    → Writes (segment_text 0 part) w v × Writes (segment_text 2 part) w v
 unfolding segment_text
-sequence_written part out o at a w = (w, w)
+sequence_written part w v c = (c, c)
 
 -- a path has few segments, so its text is not long
 pub few_items : (ks ls ns : List ℕ) → length ks ≤ 4096 → length ls ≡ length ks → length (cut ks ls ns) * 344067 ≤ 1409298432
@@ -103,9 +101,9 @@ module _ (first : Bool) (left rest : List Segment) (x : Segment) (is : left ≡ 
   pub item_room : (m v : ℕ) → m + length left * 344067 ≤ 1409298432 → v ≤ 344067 → m + v + length rest * 344067 ≤ 1409298432
   item_room m v known small = omega (arith, ap length is)
 
-  pub written_step : (t out₀ out o : List ℕ) (at₀ at a : ℕ) → Left t out₀ at₀ (path_text first left) out at
-      → Written (lead first 32 ++ segment_text x.kind x.numbers) out at o a → Left t out₀ at₀ (path_text false rest) o a
-  written_step t out₀ out o at₀ at a known w = next_left_lem (rw text_first at known) w
+  pub written_step : {t : List ℕ} {w₀ w v : Writer} → Left t w₀ (path_text first left) w
+      → Writes (lead first 32 ++ segment_text x.kind x.numbers) w v → Left t w₀ (path_text false rest) v
+  written_step known c = next_left (rw text_first at known) c
 
 -- and through no more
 module _ (first : Bool) (left : List Segment) (none : left ≡ []) where
@@ -113,14 +111,19 @@ module _ (first : Bool) (left : List Segment) (none : left ≡ []) where
   unfolding separated
   text_done t m known = omega (arith, rw none at known)
 
-  pub written_done : (t out₀ out : List ℕ) (at₀ at : ℕ) → Left t out₀ at₀ (path_text first left) out at → Written t out₀ at₀ out at
+  pub written_done : {t : List ℕ} {w₀ w : Writer} → Left t w₀ (path_text first left) w → Writes t w₀ w
   unfolding separated
-  written_done t out₀ out at₀ at known = none_left (rw none at known)
+  written_done known = none_left (rw none at known)
 
 -- what the call answers and leaves
-module _ (p : List Segment) (out : List ℕ) (m : ℕ) (e : m ≡ length (path_text true p)) where
-  pub shown_short : length out < m → Displayed (Some p) out (Err TooShort) out
-  shown_short h = record { told = simp (← e, lt-leb m (length out) h); left = kept (path_text true p) out m e h }
+module _ {p : List Segment} {m : ℕ} (e : m ≡ length (path_text true p)) where
+  pub shown_short : {out : List ℕ} → length out < m → Displayed (Some p) out (Err TooShort) out
+  shown_short {out} h = record { told = simp (← e, lt-leb m (length out) h); left = kept (path_text true p) out m e h }
 
-  pub shown_written : m ≤ length out → (new : List ℕ) (a : ℕ) → Written (path_text true p) out 0 new a → Displayed (Some p) out (Ok m) new
-  shown_written h new a w = record { told = simp (← e, le-leb m (length out) h); left = whole (path_text true p) out m e new a h w }
+  pub shown_written : {x : List ℕ} {w₀ w : Writer} → m ≤ length w₀.out.now → Writes (path_text true p) w₀ w → w₀.at ≡ 0 → x ≡ w.out.now
+      → Displayed (Some p) w₀.out.now (Ok w.at) x
+  shown_written {w₀ = w₀} h c z f =
+      record {
+        told = rw (place c z (rw e at h)) (simp (← e, le-leb m (length w₀.out.now) h));
+        left = (put e h c z f).1;
+      }

@@ -3,11 +3,12 @@
 
 ghost use Rattle.std.specs.Prelude.{◌≡◌, true, [], ◌∷◌, ◌++◌, ◌≤◌, length};
 ghost use Rattle.decimal_display.specs.Printed.{decimal};
-ghost use Rattle.output.specs.Output.{Written};
+ghost use Rattle.output.specs.Writing.{Writes};
 ghost use Rattle.aspath.specs.Segments.{kind_number, segments_in, path_of};
 ghost use Rattle.aspath_display.specs.Display.{lead, separated, segment_text, path_text, Measured, Displayed};
 
 use aspath::{AsPath, PathRecord, Segment, SegmentKind, Spoilt};
+use output::Writer;
 
 #[derive(Debug, Clone, Copy, PartialEq, Eq)]
 pub enum DisplayError {
@@ -26,6 +27,8 @@ impl From<Spoilt> for DisplayError {
 }
 
 // A number behind its separator, of which the first has none: how long it is, and written.
+// Stays two, as the pairs below: a text may take 344,067 bytes for each segment, so no place of
+// our own could hold it to be measured.
 pub fn number_len(first: bool, sep: u8, a: u32) -> usize
     ensures { Measured (lead first sep ++ decimal a) 21 result }
 {
@@ -33,21 +36,19 @@ pub fn number_len(first: bool, sep: u8, a: u32) -> usize
     if first { n } else { 1 + n }
 }
 
-fn write_lead(first: bool, sep: u8, out: &mut [u8], at: usize) -> usize
-    ensures { Written (lead first sep) out.old at out.new result }
+fn write_lead(first: bool, sep: u8, w: &mut Writer)
+    ensures { Writes (lead first sep) w.old w.new }
 {
-    if first {
-        at
-    } else {
-        output::write_byte(sep, out, at)
+    if !first {
+        w.byte(sep);
     }
 }
 
-fn write_number(first: bool, sep: u8, a: u32, out: &mut [u8], at: usize) -> usize
-    ensures { Written (lead first sep ++ decimal a) out.old at out.new result }
+fn write_number(first: bool, sep: u8, a: u32, w: &mut Writer)
+    ensures { Writes (lead first sep ++ decimal a) w.old w.new }
 {
-    let behind = write_lead(first, sep, out, at);
-    decimal_display::write_u32(a, out, behind)
+    write_lead(first, sep, w);
+    decimal_display::write_u32(a, w);
 }
 
 fn numbers_len(numbers: &[u32], sep: u8) -> usize
@@ -63,16 +64,14 @@ fn numbers_len(numbers: &[u32], sep: u8) -> usize
     len
 }
 
-pub fn write_numbers(numbers: &[u32], sep: u8, out: &mut [u8], at: usize) -> usize
-    ensures { Written (separated sep decimal true numbers.now) out.old at out.new result }
+pub fn write_numbers(numbers: &[u32], sep: u8, w: &mut Writer)
+    ensures { Writes (separated sep decimal true numbers.now) w.old w.new }
 {
-    let mut place = at;
     let mut first = true;
     for number in numbers {
-        place = write_number(first, sep, *number, out, place);
+        write_number(first, sep, *number, w);
         first = false;
     }
-    place
 }
 
 fn segment_len(segment: Segment) -> usize
@@ -84,22 +83,21 @@ fn segment_len(segment: Segment) -> usize
     }
 }
 
-fn write_set(part: &[u32], out: &mut [u8], at: usize) -> usize
-    ensures { Written ((123 ∷ []) ++ separated 44 decimal true part.now ++ (125 ∷ [])) out.old at out.new result }
+fn write_set(part: &[u32], w: &mut Writer)
+    ensures { Writes ((123 ∷ []) ++ separated 44 decimal true part.now ++ (125 ∷ [])) w.old w.new }
 {
-    let inside = output::write_byte(b'{', out, at);
-    let behind = write_numbers(part, b',', out, inside);
-    output::write_byte(b'}', out, behind)
+    w.byte(b'{');
+    write_numbers(part, b',', w);
+    w.byte(b'}');
 }
 
-fn write_segment(segment: Segment, out: &mut [u8], at: usize) -> usize
-    ensures { Written (segment_text (kind_number segment.entry.kind) segment.entry.numbers.now) out.old at out.new result }
+fn write_segment(segment: Segment, w: &mut Writer)
+    ensures { Writes (segment_text (kind_number segment.entry.kind) segment.entry.numbers.now) w.old w.new }
 {
-    let numbers = segment.numbers;
     match segment.kind {
-        SegmentKind::AsSet | SegmentKind::ConfedSet => write_set(numbers, out, at),
+        SegmentKind::AsSet | SegmentKind::ConfedSet => write_set(segment.numbers, w),
         SegmentKind::AsSequence | SegmentKind::ConfedSequence => {
-            write_numbers(numbers, b' ', out, at)
+            write_numbers(segment.numbers, b' ', w)
         }
     }
 }
@@ -112,11 +110,11 @@ fn item_len(first: bool, segment: Segment) -> usize
     if first { len } else { 1 + len }
 }
 
-fn write_item(first: bool, segment: Segment, out: &mut [u8], at: usize) -> usize
-    ensures { Written (lead first 32 ++ segment_text (kind_number segment.entry.kind) segment.entry.numbers.now) out.old at out.new result }
+fn write_item(first: bool, segment: Segment, w: &mut Writer)
+    ensures { Writes (lead first 32 ++ segment_text (kind_number segment.entry.kind) segment.entry.numbers.now) w.old w.new }
 {
-    let behind = write_lead(first, b' ', out, at);
-    write_segment(segment, out, behind)
+    write_lead(first, b' ', w);
+    write_segment(segment, w);
 }
 
 fn path_len(path: AsPath) -> usize
@@ -131,26 +129,24 @@ fn path_len(path: AsPath) -> usize
     len
 }
 
-fn write_path(path: AsPath, out: &mut [u8]) -> usize
-    ensures { Written (path_text true (segments_in path.entry)) out.old 0 out.new result }
+fn write_path(path: AsPath, w: &mut Writer)
+    ensures { Writes (path_text true (segments_in path.entry)) w.old w.new }
 {
-    let mut place = 0;
     let mut first = true;
     for segment in path.segments() {
-        place = write_item(first, segment, out, place);
+        write_item(first, segment, w);
         first = false;
     }
-    place
 }
 
 pub fn display(lent: PathRecord, out: &mut [u8]) -> Result<usize, DisplayError>
     ensures { Displayed (path_of lent.entry) out.old result out.new }
 {
     let path = lent.check()?;
-    let n = path_len(path);
-    if out.len() < n {
+    if out.len() < path_len(path) {
         return Err(DisplayError::TooShort);
     }
-    write_path(path, out);
-    Ok(n)
+    let mut w = Writer { out, at: 0 };
+    write_path(path, &mut w);
+    Ok(w.at)
 }

@@ -10,12 +10,10 @@ decimals (suc k) n = let tens = decimals k (n / 10) in cond (ltb n 10) ((48 + n)
 unfoldable pub decimal : ℕ → List ℕ
 decimal n = decimals (suc n) n
 
--- a number below 100 in two digits, and one below 10000 in four, with zeros in front
-unfoldable pub two : ℕ → List ℕ
-two n = (48 + n / 10) ∷ (48 + n % 10) ∷ []
-
-unfoldable pub four : ℕ → List ℕ
-four n = two (n / 100) ++ two (n % 100)
+-- the last k digits of n, with zeros in front where it has fewer
+unfoldable pub last_digits : ℕ → ℕ → List ℕ
+last_digits zero n = []
+last_digits (suc k) n = last_digits k (n / 10) ++ ((48 + n % 10) ∷ [])
 
 -- the whole number a - b: '-' and its size where it is negative
 unfoldable pub difference : ℕ → ℕ → List ℕ

@@ -1,156 +1,126 @@
 // Decimal numbers printed.
 #![tactic(auto)]
 
-ghost use Rattle.std.specs.Prelude.{◌≡◌, ◌+◌, ◌≤◌, ◌<◌, length};
-ghost use Rattle.decimal_display.specs.Printed.{decimal, two, four, difference};
-ghost use Rattle.output.specs.Output.{Written, front, answer};
+ghost use Rattle.std.specs.Prelude.{◌≡◌, ◌≤◌, ◌<◌, length};
+ghost use Rattle.decimal_display.specs.Printed.{decimal, last_digits, difference};
+ghost use Rattle.output.specs.Output.{front, answer};
+ghost use Rattle.output.specs.Writing.{Writes};
 
-use output::PutError;
+use output::{PutError, Writer};
 
 // How many digits n has. The powers do not depend on n: the loop unrolls to comparisons.
+#[tactic(auto, using(crate::proofs::Printed::length_pos, crate::proofs::Printed::longest, decimal::proofs::Power::power_fits))]
 pub fn decimal_len(n: u64) -> usize
     ensures { (result ≡ length (decimal n)) × (result ≤ 20) }
 {
-    let mut len = 1;
-    let mut power: u64 = 10;
-    while len < 19 {
+    let mut power: u64 = 1;
+    for len in 1..20 {
+        power = power * 10;
         if n < power {
             return len;
         }
-        power = power * 10;
-        len += 1;
     }
-    if n < power { len } else { len + 1 }
+    20
 }
 
-// The digits of n fill out, from its end, two at a time: half the divisions.
-fn fill(n: u64, out: &mut [u8])
-    requires { length out.old ≡ length (decimal n) }
-    ensures { out.new ≡ decimal n }
+// The last K digits of n, with zeros in front. K is known, so the loop unrolls.
+fn last_digits<const K: usize>(n: u64) -> [u8; K]
+    ensures { result ≡ last_digits K n }
 {
-    let mut i = out.len();
+    let mut digits = [b'0'; K];
     let mut y = n;
-    while 100 <= y {
-        let two = (y % 100) as u8;
-        i -= 2;
-        out[i] = 48 + two / 10;
-        out[i + 1] = 48 + two % 10;
-        y = y / 100;
-    }
-    let first = y as u8;
-    if first < 10 {
-        out[0] = 48 + first;
-        return;
-    }
-    out[0] = 48 + first / 10;
-    out[1] = 48 + first % 10;
-}
-
-// The digits that have room are the digits of n without its last ones.
-fn write_cut(n: u64, out: &mut [u8], at: usize) -> usize
-    requires { at < length out.old }
-    ensures { Written (decimal n) out.old at out.new result }
-{
-    let room = out.len() - at;
-    let mut len = decimal_len(n);
-    let mut y = n;
-    while room < len {
+    for i in (0..K).rev() {
+        digits[i] = b'0' + (y % 10) as u8;
         y = y / 10;
-        len -= 1;
     }
-    let end = at + len;
-    fill(y, &mut out[at..end]);
-    end
+    digits
 }
 
-// The usual number has room, so what drops digits stands apart.
-pub fn write_u64(n: u64, out: &mut [u8], at: usize) -> usize
-    ensures { Written (decimal n) out.old at out.new result }
+// At most four digits. Three are written as one and two, since three bytes are no single store.
+#[inline(always)]
+fn write_small(n: u64, w: &mut Writer)
+    requires { n < 10000 }
+    ensures { Writes (decimal n) w.old w.new }
 {
-    if out.len() <= at {
-        return at;
+    let one_digit = n < 10;
+    let two_digits = n < 100;
+    let three_digits = n < 1000;
+    if one_digit {
+        w.bytes(&last_digits::<1>(n));
+    } else if two_digits {
+        w.bytes(&last_digits::<2>(n));
+    } else if three_digits {
+        w.byte(b'0' + (n / 100) as u8);
+        w.bytes(&last_digits::<2>(n));
+    } else {
+        w.bytes(&last_digits::<4>(n));
     }
-    let digits = decimal_len(n);
-    if out.len() - at < digits {
-        return write_cut(n, out, at);
+}
+
+// At most eight digits, the last four as one group.
+#[inline(always)]
+fn write_short(n: u64, w: &mut Writer)
+    requires { n < 100000000 }
+    ensures { Writes (decimal n) w.old w.new }
+{
+    if n < 1_0000 {
+        return write_small(n, w);
     }
-    let behind = at + digits;
-    fill(n, &mut out[at..behind]);
-    behind
+    write_small(n / 1_0000, w);
+    let last = last_digits::<4>(n);
+    w.bytes(&last);
 }
 
-// Groups of digits where the caller has seen that there is room.
-fn put_two(n: u32, out: &mut [u8], at: usize)
-    requires { (n < 100) × (at + 2 ≤ length out.old) }
-    ensures { Written (two n) out.old at out.new (at + 2) }
+// More than eight digits. It stands apart, so that what writes fewer is short enough to be inlined.
+#[inline(never)]
+fn write_long(n: u64, w: &mut Writer)
+    ensures { Writes (decimal n) w.old w.new }
 {
-    out[at] = (48 + n / 10) as u8;
-    out[at + 1] = (48 + n % 10) as u8;
-}
-
-fn put_four(n: u32, out: &mut [u8], at: usize)
-    requires { (n < 10000) × (at + 4 ≤ length out.old) }
-    ensures { Written (four n) out.old at out.new (at + 4) }
-{
-    put_two(n / 100, out, at);
-    put_two(n % 100, out, at + 2);
-}
-
-// As many digits as a number below 10000 has.
-fn put_small(n: u32, out: &mut [u8], at: usize) -> usize
-    requires { (n < 10000) × (at + 4 ≤ length out.old) }
-    ensures { (Written (decimal n) out.old at out.new result) × (result ≤ at + 4) }
-{
-    if n < 100 {
-        if n < 10 {
-            out[at] = (48 + n) as u8;
-            return at + 1;
+    match n {
+        0..1_0000_0000 => write_short(n, w),
+        1_0000_0000..1_0000_0000_0000_0000 => {
+            write_short(n / 1_0000_0000, w);
+            w.bytes(&last_digits::<8>(n));
         }
-        put_two(n, out, at);
-        return at + 2;
+        _ => {
+            write_small(n / 1_0000_0000_0000_0000, w);
+            w.bytes(&last_digits::<16>(n));
+        }
     }
-    if n < 1000 {
-        out[at] = (48 + n / 100) as u8;
-        put_two(n % 100, out, at + 1);
-        return at + 3;
-    }
-    put_four(n, out, at);
-    at + 4
 }
 
-// Most numbers have at most eight digits, and room for eight: then nothing is counted first, and there is no loop.
-pub fn write_u32(n: u32, out: &mut [u8], at: usize) -> usize
-    ensures { Written (decimal n) out.old at out.new result }
+// Short enough to be inlined, so that a caller whose numbers are small pays for small ones alone.
+#[inline(always)]
+pub fn write_u64(n: u64, w: &mut Writer)
+    ensures { Writes (decimal n) w.old w.new }
 {
-    if out.len() < 8 {
-        return write_u64(n as u64, out, at);
+    if n < 1_0000_0000 {
+        write_short(n, w);
+    } else {
+        write_long(n, w);
     }
-    if out.len() - 8 < at {
-        return write_u64(n as u64, out, at);
-    }
-    if 100000000 <= n {
-        return write_u64(n as u64, out, at);
-    }
-    if n < 10000 {
-        return put_small(n, out, at);
-    }
-    let end = put_small(n / 10000, out, at);
-    put_four(n % 10000, out, end);
-    end + 4
+}
+
+#[inline(always)]
+pub fn write_u32(n: u32, w: &mut Writer)
+    ensures { Writes (decimal n) w.old w.new }
+{
+    write_u64(u64::from(n), w);
 }
 
 // The whole number a - b, and how many bytes it takes.
-pub fn write_difference(a: u64, b: u64, out: &mut [u8], at: usize) -> usize
-    ensures { Written (difference a b) out.old at out.new result }
+pub fn write_difference(a: u64, b: u64, w: &mut Writer)
+    ensures { Writes (difference a b) w.old w.new }
 {
     if a < b {
-        let behind_sign = output::write_byte(b'-', out, at);
-        write_u64(b - a, out, behind_sign)
+        w.byte(b'-');
+        write_u64(b - a, w);
     } else {
-        write_u64(a - b, out, at)
+        write_u64(a - b, w);
     }
 }
 
+#[tactic(auto, using(crate::proofs::Printed::negative_length, crate::proofs::Printed::positive_length))]
 pub fn difference_len(a: u64, b: u64) -> usize
     ensures { (result ≡ length (difference a b)) × (result ≤ 21) }
 {
@@ -167,11 +137,13 @@ pub fn put_u64(n: u64, out: &mut [u8]) -> Result<usize, PutError>
     if out.len() < decimal_len(n) {
         return Err(PutError::TooShort);
     }
-    Ok(write_u64(n, out, 0))
+    let mut w = Writer { out, at: 0 };
+    write_u64(n, &mut w);
+    Ok(w.at)
 }
 
 pub fn put_u32(n: u32, out: &mut [u8]) -> Result<usize, PutError>
     ensures { (result ≡ answer (decimal n) out.old) × (out.new ≡ front (decimal n) out.old) }
 {
-    put_u64(n as u64, out)
+    put_u64(u64::from(n), out)
 }

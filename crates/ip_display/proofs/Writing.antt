@@ -1,21 +1,20 @@
 -- Laws of writing addresses.
-use mathlib.Core.Path.{◌≡◌, refl, sym, ap, subst, ◌∙◌}
+use mathlib.Core.Path.{◌≡◌, refl, sym, ap, ◌∙◌}
 use mathlib.Core.List.{List, [], ◌∷◌, ◌++◌}
 use mathlib.Core.Bool.{Bool, true, false, cond, ◌&&◌}
-use Prim.Native.Nat.{ℕ, zero, suc, ◌+◌, ◌-◌, ◌*◌, ◌/◌, ◌%◌, ◌^◌, ◌≤◌, ◌<◌, max}
+use Prim.Native.Nat.{ℕ, zero, suc, ◌+◌, ◌-◌, ◌*◌, ◌/◌, ◌%◌, ◌≤◌, ◌<◌, max}
 use native.Mathlib.Numerals.{add-one}
 use native.Mathlib.Nat.{zero-add, le_refl}
 use native.Mathlib.Omega.{arith}
 use lib.ListN.{length, get_or, take, drop, length-append, length-take, length-drop, drop_of_length-le}
 use lib.Seq.{drop-cons, take_all}
-use mir.Syntax.{w64}
-use mir.Val.{Fits}
 use lib.Dec.{eqb, leb, ltb}
 use borrow.Author.Tests.{le-ltb, lt-ltb, lt-leb, le-leb, eq-eqb, ne_eqb, leb-true, leb-false}
 use Rattle.decimal_display.specs.Printed.{decimal}
-use Rattle.output.specs.Output.{Written}
-use Rattle.decimal_display.proofs.Printed.{decimal_short, decimal_long, digits_most}
-use Rattle.output.proofs.Output.{then, nothing, Left, next_left_lem, none_left}
+use Rattle.output.specs.Writing.{Writes}
+use Rattle.output.specs.declared.Writer.{Writer}
+use Rattle.decimal_display.proofs.Printed.{digits_most}
+use Rattle.output.proofs.Writing.{then, nothing, Left, next_left, none_left}
 use Rattle.ip_display.specs.Groups.{groups_of, counted, zeros, longest, first_run}
 use Rattle.ip_display.specs.Text.{before_dot, dotted, hex_byte, hexes, hex, behind_colons, joined, shortened, plain, is_mapped, mapped, ipv6_text}
 
@@ -56,74 +55,44 @@ hex_4 g h l =
     let y : g / 256 / 16 ≡ g / 4096 = omega arith in
     hex_long 3 g (omega arith) ∙ rw (hex_long 2 (g / 16) (omega arith), z, hex_long 1 (g / 256) (omega arith), y, hex_last 0 (g / 4096) (omega arith))
 
--- writers of a group
-module _ (g : ℕ) (out : List ℕ) (at : ℕ) where
-  pub written_1 : g < 16 → (b r : ℕ) (o : List ℕ) → b ≡ hex_byte g → Written (b ∷ []) out at o r → Written (hex g) out at o r
-  written_1 h b r o e w = rw (hex_1 g h, ← e) w
+-- the digits written of a group
+module _ (g b c d : ℕ) (eb : b ≡ hex_byte (g / 256 % 16)) (ec : c ≡ hex_byte (g / 16 % 16)) (ed : d ≡ hex_byte (g % 16)) where
+  pub one_digit : g < 16 → d ∷ [] ≡ hex g
+  one_digit h = let z : g % 16 ≡ g = omega arith in rw (hex_1 g h, ed, z)
 
-  pub written_2 : 16 ≤ g → g < 256 → (a b p r : ℕ) (o₁ o : List ℕ) → a ≡ hex_byte (g / 16) → Written (a ∷ []) out at o₁ p
-      → b ≡ hex_byte (g % 16) → Written (b ∷ []) o₁ p o r → Written (hex g) out at o r
-  written_2 h l a b p r o₁ o ea wa eb wb = rw (hex_2 g h l, ← ea, ← eb) (then wa wb)
+  pub two_digits : 16 ≤ g → g < 256 → c ∷ d ∷ [] ≡ hex g
+  two_digits h l = let z : g / 16 % 16 ≡ g / 16 = omega arith in rw (hex_2 g h l, ec, ed, z)
 
-  pub written_3 : 256 ≤ g → g < 4096 → (a b c p q r : ℕ) (o₁ o₂ o : List ℕ) → a ≡ hex_byte (g / 256) → Written (a ∷ []) out at o₁ p
-      → b ≡ hex_byte (g / 16 % 16) → Written (b ∷ []) o₁ p o₂ q → c ≡ hex_byte (g % 16) → Written (c ∷ []) o₂ q o r → Written (hex g) out at o r
-  written_3 h l a b c p q r o₁ o₂ o ea wa eb wb ec wc = rw (hex_3 g h l, ← ea, ← eb, ← ec) (then (then wa wb) wc)
+  pub three_digits : 256 ≤ g → g < 4096 → b ∷ c ∷ d ∷ [] ≡ hex g
+  three_digits h l = let z : g / 256 % 16 ≡ g / 256 = omega arith in rw (hex_3 g h l, eb, ec, ed, z)
 
-  pub written_4 : 4096 ≤ g → g < 2 ^ 16 → (a b c d p q s r : ℕ) (o₁ o₂ o₃ o : List ℕ) → a ≡ hex_byte (g / 4096) → Written (a ∷ []) out at o₁ p
-      → b ≡ hex_byte (g / 256 % 16) → Written (b ∷ []) o₁ p o₂ q → c ≡ hex_byte (g / 16 % 16) → Written (c ∷ []) o₂ q o₃ s
-      → d ≡ hex_byte (g % 16) → Written (d ∷ []) o₃ s o r → Written (hex g) out at o r
-  written_4 h l a b c d p q s r o₁ o₂ o₃ o ea wa eb wb ec wc ed wd = rw (hex_4 g h l, ← ea, ← eb, ← ec, ← ed) (then (then (then wa wb) wc) wd)
+  pub four_digits : 4096 ≤ g → g < 65536 → (a : ℕ) → a ≡ hex_byte (g / 4096) → a ∷ b ∷ c ∷ d ∷ [] ≡ hex g
+  four_digits h l a ea = rw (hex_4 g h l, ea, eb, ec, ed)
 
--- an octet by its number of digits
-octet_3 : (o : ℕ) → 100 ≤ o → o < 2 ^ 8 → decimal o ≡ ((48 + o / 100) ∷ []) ++ ((48 + o / 10 % 10) ∷ []) ++ ((48 + o % 10) ∷ [])
-octet_3 o h l =
-    let z : o / 10 / 10 ≡ o / 100 = omega arith in
-    decimal_long o (omega arith) ∙ rw (decimal_long (o / 10) (omega arith), z, decimal_short (o / 100) (omega arith))
+-- what is written is a text
+pub as_text : (t u : List ℕ) (w v : Writer) → t ≡ u → Writes t w v → Writes u w v
+as_text t u w v e f = rw (← e) f
 
--- writers of an octet
-module _ (o : ℕ) (out : List ℕ) (at : ℕ) where
-  pub written_octet_1 : o < 10 → (r : ℕ) (new : List ℕ) → Written ((48 + o) ∷ []) out at new r → Written (decimal o) out at new r
-  written_octet_1 h r new w = rw (decimal_short o h) w
-
-  pub written_octet_2 : 10 ≤ o → o < 100 → (p r : ℕ) (o₁ new : List ℕ) → Written ((48 + o / 10) ∷ []) out at o₁ p → Written ((48 + o % 10) ∷ []) o₁ p new r
-      → Written (decimal o) out at new r
-  written_octet_2 h l p r o₁ new w v = rw (decimal_long o h, decimal_short (o / 10) (omega arith)) (then w v)
-
-  pub written_octet_3 : 100 ≤ o → o < 2 ^ 8 → (p q r : ℕ) (o₁ o₂ new : List ℕ) → Written ((48 + o / 100) ∷ []) out at o₁ p → Written ((48 + o / 10 % 10) ∷ []) o₁ p o₂ q
-      → Written ((48 + o % 10) ∷ []) o₂ q new r → Written (decimal o) out at new r
-  written_octet_3 h l p q r o₁ o₂ new w v u = rw (octet_3 o h l) (then (then w v) u)
-
-pub written_dotted : (n : ℕ) (out o₁ o₂ o₃ o : List ℕ) (at a b c r : ℕ) → Written (before_dot (n / 16777216 % 256)) out at o₁ a → Written (before_dot (n / 65536 % 256)) o₁ a o₂ b
-    → Written (before_dot (n / 256 % 256)) o₂ b o₃ c → Written (decimal (n % 256)) o₃ c o r → Written (dotted n) out at o r
+pub dotted_written : (n : ℕ) (w₀ w₁ w₂ w₃ w₄ : Writer) → Writes (before_dot (n / 16777216 % 256)) w₀ w₁ → Writes (before_dot (n / 65536 % 256)) w₁ w₂
+    → Writes (before_dot (n / 256 % 256)) w₂ w₃ → Writes (decimal (n % 256)) w₃ w₄ → Writes (dotted n) w₀ w₄
 unfolding dotted
-written_dotted n out o₁ o₂ o₃ o at a b c r w₁ w₂ w₃ w₄ = then (then (then w₁ w₂) w₃) w₄
+dotted_written n w₀ w₁ w₂ w₃ w₄ a b c d = then (then (then a b) c) d
 
--- groups between colons
-pub no_groups_lem : (g out : List ℕ) (from to at : ℕ) → to ≤ from → Written (joined (take (to - from) (drop from g))) out at out at
+-- groups between colons: those behind the first are still to be written
+pub none_joined : (gs : List ℕ) (w : Writer) → length gs ≡ 0 → Writes (joined gs) w w
 unfolding joined
-no_groups_lem g out from to at h = let z : to - from ≡ 0 = omega arith in rw z (nothing out at)
+none_joined [] w e = nothing w
+none_joined (g ∷ gs) w e = absurd (omega (arith, e))
 
-slice_cons : (g : List ℕ) (from to : ℕ) → from < to → to ≤ length g → take (to - from) (drop from g) ≡ get_or g from 0 ∷ take (to - (from + 1)) (drop (from + 1) g)
-slice_cons g from to h l = let z : to - from ≡ suc (to - (from + 1)) = omega arith in rw (z, add-one, drop-cons g from 0 (omega arith))
-
-colons_cons : (gs : List ℕ) (g : ℕ) (hs : List ℕ) → gs ≡ g ∷ hs → behind_colons gs ≡ (58 ∷ []) ++ hex g ++ behind_colons hs
+pub next_group : (text gs : List ℕ) (i g : ℕ) (w₀ w₁ w₂ w₃ : Writer) → i < length gs → g ≡ get_or gs i 0 → Left text w₀ (behind_colons (drop i gs)) w₁ → Writes (58 ∷ []) w₁ w₂
+    → Writes (hex g) w₂ w₃ → Left text w₀ (behind_colons (drop (i + 1) gs)) w₃
 unfolding behind_colons
-colons_cons gs g hs e = rw e
+next_group text gs i g w₀ w₁ w₂ w₃ h e f a b = rw add-one (next_left (rw (drop-cons gs i 0 h, ← e) at f) (then a b))
 
-pub next_group : (g text out₀ out o₁ o : List ℕ) (to i at p q r : ℕ) → length g ≡ 8 → to ≤ 8 → i < to → Left text out₀ at (behind_colons (take (to - i) (drop i g))) out p
-    → Written (58 ∷ []) out p o₁ q → Written (hex (get_or g i 0)) o₁ q o r → Left text out₀ at (behind_colons (take (to - (i + 1)) (drop (i + 1) g))) o r
-next_group g text out₀ out o₁ o to i at p q r e l h f w v = next_left_lem (subst (λ (t : List ℕ). Left text out₀ at t out p) z f) (then w v)
-  where
-    z : behind_colons (take (to - i) (drop i g)) ≡ (58 ∷ []) ++ hex (get_or g i 0) ++ behind_colons (take (to - (i + 1)) (drop (i + 1) g))
-    z = colons_cons (take (to - i) (drop i g)) (get_or g i 0) (take (to - (i + 1)) (drop (i + 1) g)) (slice_cons g i to h (omega arith))
-
-pub all_groups : (g out out₀ o : List ℕ) (from to i at p r : ℕ) → length g ≡ 8 → to ≤ 8 → from < to → Written (hex (get_or g from 0)) out at out₀ p
-    → Left (behind_colons (take (to - (from + 1)) (drop (from + 1) g))) out₀ p (behind_colons (take (to - i) (drop i g))) o r → to ≤ i
-    → Written (joined (take (to - from) (drop from g))) out at o r
+pub all_groups : (text : List ℕ) (g : ℕ) (gs : List ℕ) (i : ℕ) (w₀ w₁ w₂ : Writer) → text ≡ g ∷ gs → Writes (hex g) w₀ w₁ → length gs ≤ i
+    → Left (behind_colons gs) w₁ (behind_colons (drop i gs)) w₂ → Writes (joined text) w₀ w₂
 unfolding joined behind_colons
-all_groups g out out₀ o from to i at p r e l h w f k =
-    let z : to - i ≡ 0 = omega arith in
-    rw (slice_cons g from to h (omega arith)) (then w (none_left (rw z at f)))
+all_groups text g gs i w₀ w₁ w₂ e a h f = let z : drop i gs ≡ [] = drop_of_length-le gs {i = i} h in rw e (then a (none_left (rw z at f)))
 
 -- zero groups counted from behind: of those from i on, n are at the front, the longest run has len, and it starts at start
 pub counted_one : (g n : ℕ) → g ≡ 0 → n + 1 ≡ counted g n
@@ -177,13 +146,6 @@ pub run_start : (g : List ℕ) → length g ≡ 8 → (0 ≡ zeros (drop 8 g)) �
 unfolding zeros longest first_run
 run_start g e = let z : drop 8 g ≡ [] = drop_of_length-le g {i = 8} (omega arith) in rw z (refl, refl, refl)
 
-pub run_found : (g : List ℕ) (i len start : ℕ) → i ≤ 0 → len ≡ longest (drop i g) → start ≡ i + first_run len (drop i g)
-    → (start ≡ first_run (longest g) g) × (len ≡ longest g)
-run_found g i len start h hl hs =
-    let z : i ≡ 0 = omega arith in
-    let k : len ≡ longest g = rw z at hl in
-    let f : start ≡ 0 + first_run len g = rw z at hs in (f ∙ zero-add (first_run len g) ∙ rw k, k)
-
 -- a run lies within the groups
 zeros_le : (gs : List ℕ) → zeros gs ≤ length gs
 unfolding zeros
@@ -207,38 +169,37 @@ run_within n (g ∷ gs) h = go (leb n (zeros (g ∷ gs))) refl (run_within n gs)
 pub first_within : (gs : List ℕ) → first_run (longest gs) gs + longest gs ≤ length gs
 first_within gs = run_within (longest gs) gs (le_refl (longest gs))
 
+pub run_found : (g : List ℕ) (i len start : ℕ) → length g ≡ 8 → i ≤ 0 → len ≡ longest (drop i g) → start ≡ i + first_run len (drop i g)
+    → (start ≡ first_run (longest g) g) × (len ≡ longest g) × (start + len ≤ 8)
+run_found g i len start e h hl hs =
+    let z : i ≡ 0 = omega arith in
+    let k : len ≡ longest g = rw z at hl in
+    let f : start ≡ 0 + first_run len g = rw z at hs in
+    let first : start ≡ first_run (longest g) g = f ∙ zero-add (first_run len g) ∙ rw k in (first, k, omega (arith, first, k, first_within g))
+
 -- the whole text of groups
-module _ (g : List ℕ) (e : length g ≡ 8) (k n : ℕ) (hk : k ≡ first_run (longest g) g) (hn : n ≡ longest g) where
-  pub run_le : k ≤ 8
-  run_le = omega (arith, first_within g)
-
-  pub run_fits : Fits w64 (k + n)
-  run_fits = record { fits = omega (arith, first_within g) }
-
-  pub plain_joined : n < 2 → (out o : List ℕ) (at r : ℕ) → Written (joined (take (8 - 0) (drop 0 g))) out at o r → Written (plain g) out at o r
+module _ (g : List ℕ) (k n : ℕ) (hk : k ≡ first_run (longest g) g) (hn : n ≡ longest g) where
+  pub plain_joined : n < 2 → (w v : Writer) → Writes (joined g) w v → Writes (plain g) w v
   unfolding plain
-  plain_joined h out o at r w = simp (lt-leb 2 (longest g) (omega arith)) (rw (take_all 8 g (omega arith)) at w)
+  plain_joined h w v f = simp (lt-leb 2 (longest g) (omega arith)) f
 
-  pub plain_shortened : 2 ≤ n → (out o₁ o₂ o : List ℕ) (at a b r : ℕ) → Written (joined (take (k - 0) (drop 0 g))) out at o₁ a → Written (58 ∷ 58 ∷ []) o₁ a o₂ b
-      → Written (joined (take (8 - (k + n)) (drop (k + n) g))) o₂ b o r → Written (plain g) out at o r
+  pub plain_shortened : 2 ≤ n → length g ≡ 8 → (w₀ w₁ w₂ w₃ : Writer) → Writes (joined (take k g)) w₀ w₁ → Writes (58 ∷ 58 ∷ []) w₁ w₂
+      → Writes (joined (take (8 - (k + n)) (drop (k + n) g))) w₂ w₃ → Writes (plain g) w₀ w₃
   unfolding plain shortened
-  plain_shortened h out o₁ o₂ o at a b r w₁ w₂ w₃ =
-      let z : k - 0 ≡ k = omega arith in
+  plain_shortened h e w₀ w₁ w₂ w₃ a b c =
       let f : k ≡ first_run n g = hk ∙ ap (λ (m : ℕ). first_run m g) (sym hn) in
-      simp (← hn, le-leb 2 n h, ← f)
-      (then (then (rw z at w₁) w₂) (rw (take_all (8 - (k + n)) (drop (k + n) g) (simp length-drop (omega arith))) at w₃))
+      simp (← hn, le-leb 2 n h, ← f) (then (then a b) (rw (take_all (8 - (k + n)) (drop (k + n) g) (simp length-drop (omega arith))) at c))
 
 -- addresses
-module _ (u l : ℕ) (out : List ℕ) (at : ℕ) where
-  pub written_mapped : eqb u 0 && eqb (l / 4294967296) 65535 ≡ true → (o₁ o : List ℕ) (a r : ℕ) → Written (58 ∷ 58 ∷ 102 ∷ 102 ∷ 102 ∷ 102 ∷ 58 ∷ []) out at o₁ a
-      → Written (dotted (l % 4294967296)) o₁ a o r → Written (ipv6_text u l) out at o r
+module _ (u l : ℕ) where
+  pub mapped_written : eqb u 0 && eqb (l / 4294967296) 65535 ≡ true → (w₀ w₁ w₂ : Writer) → Writes (58 ∷ 58 ∷ 102 ∷ 102 ∷ 102 ∷ 102 ∷ 58 ∷ []) w₀ w₁
+      → Writes (dotted (l % 4294967296)) w₁ w₂ → Writes (ipv6_text u l) w₀ w₂
   unfolding ipv6_text mapped
-  written_mapped e o₁ o a r w v = simp e (then w v)
+  mapped_written e w₀ w₁ w₂ a b = simp e (then a b)
 
-  pub written_plain : eqb u 0 && eqb (l / 4294967296) 65535 ≡ false → (g o : List ℕ) (r : ℕ) → g ≡ groups_of u l → Written (plain g) out at o r
-      → Written (ipv6_text u l) out at o r
+  pub plain_written : eqb u 0 && eqb (l / 4294967296) 65535 ≡ false → (g : List ℕ) (w v : Writer) → g ≡ groups_of u l → Writes (plain g) w v → Writes (ipv6_text u l) w v
   unfolding ipv6_text
-  written_plain e g o r f w = simp e (rw f at w)
+  plain_written e g w v f a = simp e (rw f at a)
 
 -- the longest text
 hexes_le : (k n : ℕ) → length (hexes k n) ≤ k

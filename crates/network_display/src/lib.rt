@@ -2,37 +2,53 @@
 #![tactic(auto)]
 
 ghost use Rattle.std.specs.Prelude.{◌≡◌, ◌≤◌, length};
-ghost use Rattle.output.specs.Output.{Written, front, answer};
+ghost use Rattle.output.specs.Writing.{Writes};
+ghost use Rattle.output.specs.Output.{front, answer};
 ghost use Rattle.network_display.specs.Text.{address_text, prefix_text};
 
 use network::{IpAddr, NetworkPrefix};
-use output::PutError;
+use output::{PutError, Writer};
 
-pub fn write_address(a: IpAddr, out: &mut [u8], at: usize) -> usize
-    ensures { Written (address_text a) out.old at out.new result }
+// Stays writers and no Display: 01's calls print into a lent list, and refuse where it is too short;
+// a Display beside them would be a second printer, which nothing here would use.
+#[tactic(auto, unfolding(crate::specs::Text::address_text))]
+#[inline(always)]
+pub fn write_address(a: IpAddr, w: &mut Writer)
+    ensures { Writes (address_text a) w.old w.new }
 {
     match a {
-        IpAddr::V4(n) => ip_display::write_ipv4(n, out, at),
-        IpAddr::V6(u, l) => ip_display::write_ipv6(u, l, out, at),
+        IpAddr::V4(n) => ip_display::write_ipv4(n, w),
+        IpAddr::V6(u, l) => {
+            // Lent a writer of its own, so that ours can stay in registers.
+            let mut v = Writer {
+                out: w.out,
+                at: w.at,
+            };
+            ip_display::write_ipv6(u, l, &mut v);
+            w.at = v.at;
+        }
     }
 }
 
-pub fn write_prefix(p: NetworkPrefix, out: &mut [u8], at: usize) -> usize
-    ensures { Written (prefix_text p) out.old at out.new result }
+pub fn write_prefix(p: NetworkPrefix, w: &mut Writer)
+    ensures { Writes (prefix_text p) w.old w.new }
 {
-    let addr = p.addr;
-    let len = p.len;
-    let a = write_address(addr, out, at);
-    let b = output::write_byte(b'/', out, a);
-    decimal_display::write_u32(len as u32, out, b)
+    write_address(p.addr, w);
+    w.byte(b'/');
+    decimal_display::write_u32(u32::from(p.len), w);
 }
 
 // How long the text is: it is written into places of our own.
 pub fn address_len(a: IpAddr) -> usize
     ensures { (result ≡ length (address_text a)) × (result ≤ 45) }
 {
-    let mut places = [0u8; 45];
-    write_address(a, &mut places, 0)
+    let mut places = [0; 45];
+    let mut text = Writer {
+        out: &mut places,
+        at: 0,
+    };
+    write_address(a, &mut text);
+    text.at
 }
 
 pub fn put_address(a: IpAddr, out: &mut [u8]) -> Result<usize, PutError>
@@ -41,15 +57,16 @@ pub fn put_address(a: IpAddr, out: &mut [u8]) -> Result<usize, PutError>
     if out.len() < address_len(a) {
         return Err(PutError::TooShort);
     }
-    Ok(write_address(a, out, 0))
+    let mut w = Writer { out, at: 0 };
+    write_address(a, &mut w);
+    Ok(w.at)
 }
 
+#[tactic(auto, using(crate::proofs::Writing::prefix_length))]
 pub fn prefix_text_len(p: NetworkPrefix) -> usize
     ensures { (result ≡ length (prefix_text p)) × (result ≤ 66) }
 {
-    let addr = p.addr;
-    let len = p.len;
-    address_len(addr) + 1 + decimal_display::decimal_len(len as u64)
+    address_len(p.addr) + 1 + decimal_display::decimal_len(u64::from(p.len))
 }
 
 pub fn put_prefix(p: NetworkPrefix, out: &mut [u8]) -> Result<usize, PutError>
@@ -58,5 +75,7 @@ pub fn put_prefix(p: NetworkPrefix, out: &mut [u8]) -> Result<usize, PutError>
     if out.len() < prefix_text_len(p) {
         return Err(PutError::TooShort);
     }
-    Ok(write_prefix(p, out, 0))
+    let mut w = Writer { out, at: 0 };
+    write_prefix(p, &mut w);
+    Ok(w.at)
 }

@@ -4,10 +4,10 @@ use mathlib.Core.Path.{◌≡◌, refl, sym, ap, ◌∙◌}
 use mathlib.Core.List.{List, [], ◌∷◌, ◌++◌, append_assoc, append-nil}
 use mathlib.Core.Bool.{Bool, true, false, cond}
 use Prim.Native.Nat.{ℕ, suc, ◌+◌, ◌-◌, ◌≤◌, ◌<◌, min}
-use native.Mathlib.Nat.{zero-add, add-zero, add_assoc, min-eq_left}
+use native.Mathlib.Nat.{zero-add, add-zero, add_assoc}
 use native.Mathlib.Numerals.{add-one}
 use native.Mathlib.Omega.{arith}
-use lib.ListN.{length, take, drop, set, drop_of_length-le, length-append, length-take, length-drop}
+use lib.ListN.{length, take, drop, set, drop_of_length-le, length-append, length-drop}
 use lib.Seq.{paste, paste-zero, length-paste, take-paste, drop-paste, drop-drop, drop-append-add, take-append-add, take-append-le, take_all, take-length, set_split, append_snoc}
 use borrow.Rule.Slice.PartMut.{put_mid}
 use lib.Dec.{leb}
@@ -157,44 +157,11 @@ byte_written b out at h =
     }
 
 -- the first n bytes copied, as many as there is room for
-pub bytes_written : (t out ys : List ℕ) (at n : ℕ) → at < length out → n ≡ min (length t) (length out - at) → ys ≡ take n t
-    → Written t out at (put_mid at (at + n - at) out ys) (at + n)
+pub bytes_written : (t out ys : List ℕ) (at n k : ℕ) → at < length out → n ≡ min (length t) (length out - at) → k ≡ n → ys ≡ take n t
+    → Written t out at (put_mid at k out ys) (at + n)
 unfolding overwrite room
-bytes_written t out ys at n h e f =
-    let k : at + n - at ≡ n = omega arith in
-    record { list = rw (k, f, drop-drop, e) (sym (append_assoc (take at out) _ _)); place = rw e }
-
--- what has room of a text, written to its part of the list
-take_room : (out : List ℕ) (at : ℕ) (t : List ℕ) → take (room out at t) t ≡ take (length out - at) t
-unfolding room
-take_room out at t = go (leb (length t) (length out - at)) refl
-  where
-    go : (b : Bool) → leb (length t) (length out - at) ≡ b → take (min (length t) (length out - at)) t ≡ take (length out - at) t
-    go true e =
-        let h : length t ≤ length out - at = leb-true (length t) (length out - at) e in
-        rw (min-eq_left h, take-length t) (sym (take_all (length out - at) t h))
-    go false e =
-        let z : min (length t) (length out - at) ≡ length out - at = omega (arith, leb-false (length t) (length out - at) e) in
-        rw z
-
-length_room : (out : List ℕ) (at : ℕ) (t : List ℕ) → length (take (length out - at) t) ≡ room out at t
-unfolding room
-length_room out at t = simp length-take (omega arith)
-
-pub part_written : (t out ys : List ℕ) (at len : ℕ) → ys ≡ take (length out - at) t → len ≡ length ys
-    → Written t out at (take at out ++ (ys ++ drop (at + len - at) (drop at out))) (at + len)
-unfolding overwrite
-part_written t out ys at len e f =
-    record {
-      list = rw (z, drop-drop, take_room out at t, ← e) (sym (append_assoc (take at out) ys (drop (at + room out at t) out)));
-      place = ap (λ (k : ℕ). at + k) n;
-    }
-  where
-    n : len ≡ room out at t
-    n = f ∙ ap length e ∙ length_room out at t
-
-    z : at + len - at ≡ room out at t
-    z = omega (arith, n)
+bytes_written t out ys at n k h e z f =
+    record { list = rw (z, f, drop-drop, e) (sym (append_assoc (take at out) _ _)); place = rw e }
 
 -- a call that measured its text and refuses
 module _ (t out : List ℕ) (n : ℕ) (e : n ≡ length t) where

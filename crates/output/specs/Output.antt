@@ -1,13 +1,13 @@
 -- Text written into a lent list of bytes, for every crate that prints.
 --
--- A writer takes the list and a place, writes its text from there on as far as there is room, and answers the place behind what it wrote: `Written`.
--- In this form writers in a row need no measuring and no premise: each starts at the place that the one before answered, and together they write
--- the append of their texts. The laws are in proofs/Output.antt:
---   then                              two writers in a row are a writer of the append
---   all_left, next_left_lem, none_left    the same for a loop, whose invariant is `Left`
---   too_short, kept, wrote, whole     a call that measures its text, refuses a list that is too short, and else writes from place 0
--- A crate that prints states two laws of each of its texts, over plain variables, and hands them to `search`: what its writers' contracts make by `then`,
--- and that the sum that its code computes is the text's length.
+-- A writer (`Writer`) is the list with a place in it. A call that is lent one writes its text from the place on as far as there is room, and
+-- leaves the place behind what it wrote: `Written` of the list and the places, `Writes` (Writing.antt) of the writer before and after. In this form
+-- calls in a row need no measuring and no premise, and together they write the append of their texts. The laws are in proofs/Writing.antt:
+--   then                                 two calls in a row write the append
+--   all_left, next_left, none_left       the same for a loop, whose invariant is `Left`
+--   place, put                           a call that measured its text and lends a writer of its whole list
+-- and in proofs/Output.antt: too_short and kept, for a call that measures its text and refuses a list that is too short.
+
 use Rattle.std.specs.Prelude.{ℕ, ◌+◌, ◌-◌, min, ◌≡◌, List, ◌++◌, cond, length, take, drop, leb, Result, Ok, Err}
 use Rattle.output.specs.declared.PutError.{PutError}
 use Rattle.output.specs.declared.PutError.TheVariants.{TooShort}
@@ -20,7 +20,7 @@ room out at text = min (length text) (length out - at)
 unfoldable pub overwrite : List ℕ → ℕ → List ℕ → List ℕ
 overwrite out at text = let n = room out at text in take at out ++ take n text ++ drop (at + n) out
 
--- what a writer of the text does: the list becomes new, and the place behind what was written is r
+-- what writing the text does: the list becomes new, and the place behind what was written is r
 pub record Written (text out : List ℕ) (at : ℕ) (new : List ℕ) (r : ℕ) : Type 0 where
   pub list : new ≡ overwrite out at text
   pub place : r ≡ at + room out at text

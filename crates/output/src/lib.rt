@@ -1,11 +1,11 @@
 // Text written into lent lists, for every crate that prints.
 #![tactic(auto)]
 
-ghost use Rattle.std.specs.Prelude.{◌≡◌, ◌+◌, ◌<◌, ◌≤◌, [], ◌∷◌, length, drop};
+ghost use Rattle.std.specs.Prelude.{◌≡◌, ◌+◌, ◌<◌, ◌≤◌, [], ◌∷◌, length, take, drop};
 ghost use Rattle.std.proofs.Math.Seq.{paste};
-ghost use Rattle.output.specs.Output.{Written};
+ghost use Rattle.output.specs.Writing.{Writes};
 
-// What a call answers that prints into a lent list or refuses to.
+// Why a call refuses that prints into a lent list (01, Where a call says no): 9.
 #[derive(Debug, Clone, Copy, PartialEq, Eq)]
 pub enum PutError {
     TooShort,
@@ -36,15 +36,14 @@ fn copy_many<const N: usize>(text: &[u8], out: &mut [u8])
     copy_step::<N>(text, out, last);
 }
 
-// The text, the first four bytes and the last four at once.
-fn copy_some(text: &[u8], out: &mut [u8])
-    requires { (4 ≤ length text.now) × (length text.now ≤ 8) × (length out.old ≡ length text.now) }
+// The text, its first N bytes and its last N at once: some may be written twice.
+fn copy_ends<const N: usize>(text: &[u8], out: &mut [u8])
+    requires { (N ≤ length text.now) × (length text.now ≤ N + N) × (length out.old ≡ length text.now) }
     ensures { out.new ≡ text.now }
 {
-    let last = text.len() - 4;
-    copy_step::<4>(text, out, 0);
-    // Some of the last four may stand there already.
-    copy_step::<4>(text, out, last);
+    let behind = text.len() - N;
+    copy_step::<N>(text, out, 0);
+    copy_step::<N>(text, out, behind);
 }
 
 // The text in the place of as many bytes.
@@ -54,29 +53,59 @@ fn copy(text: &[u8], out: &mut [u8])
 {
     match text.len() {
         8.. => copy_many::<8>(text, out),
-        4.. => copy_some(text, out),
+        4.. => copy_ends::<4>(text, out),
+        2.. => copy_ends::<2>(text, out),
         _ => out.copy_from_slice(text),
     }
 }
 
-pub fn write_bytes(text: &[u8], out: &mut [u8], at: usize) -> usize
-    ensures { Written text.now out.old at out.new result }
+// The first bytes of a text, as many as the list has places. It takes no writer, so that one whose
+// texts have room can stay in registers.
+#[cold]
+fn copy_first(text: &[u8], out: &mut [u8]) -> usize
+    requires { length out.old ≤ length text.now }
+    ensures { (out.new ≡ take (length out.old) text.now) × (result ≡ length out.old) }
 {
-    if out.len() <= at {
-        return at;
-    }
-    let n = text.len().min(out.len() - at);
-    copy(&text[..n], &mut out[at..at + n]);
-    at + n
+    let n = out.len();
+    copy(&text[..n], out);
+    n
 }
 
-pub fn write_byte(b: u8, out: &mut [u8], at: usize) -> usize
-    ensures { Written (b ∷ []) out.old at out.new result }
-{
-    if at < out.len() {
-        out[at] = b;
-        at + 1
-    } else {
-        at
+// A lent list with the place in it up to which text stands. A text is written as far as there is
+// room, so texts one after another need no measuring.
+#[derive(Drop)]
+pub struct Writer<'a> {
+    pub out: &'a mut [u8],
+    pub at: usize,
+}
+
+impl<'a> Writer<'a> {
+    // Most texts have room; one whose length is known is then a few stores.
+    #[inline(always)]
+    pub fn bytes(&mut self, text: &[u8])
+        ensures { Writes text.now self.old self.new }
+    {
+        let at = self.at;
+        if self.out.len() <= at {
+            return;
+        }
+        let n = text.len();
+        if n <= self.out.len() - at {
+            copy(text, &mut self.out[at..at + n]);
+            self.at = at + n;
+        } else {
+            self.at = at + copy_first(text, &mut self.out[at..]);
+        }
+    }
+
+    #[inline(always)]
+    pub fn byte(&mut self, b: u8)
+        ensures { Writes (b ∷ []) self.old self.new }
+    {
+        let at = self.at;
+        if at < self.out.len() {
+            self.out[at] = b;
+            self.at = at + 1;
+        }
     }
 }

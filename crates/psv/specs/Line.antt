@@ -70,11 +70,8 @@ display_text e asns =
 abbrev pub bar : List ℕ
 bar = 124 ∷ []
 
-unfoldable pub start_text : Bool → Float → List ℕ
-start_text announce t = type_text announce ++ bar ++ time_text (second_of t) ++ bar
-
 unfoldable pub front_text : Bool → Float → IpAddr → Asn → List ℕ
-front_text announce t ip number = start_text announce t ++ address_text ip ++ bar ++ decimal number.0
+front_text announce t ip number = type_text announce ++ bar ++ time_text (second_of t) ++ bar ++ address_text ip ++ bar ++ decimal number.0
 
 -- the front of an element's line
 abbrev pub peer_text : Element → List ℕ
@@ -84,24 +81,21 @@ peer_text e = front_text e.announce e.timestamp e.peer_ip e.peer_asn
 unfoldable pub between_text : NetworkPrefix → List ℕ
 between_text p = bar ++ prefix_text p ++ bar
 
-unfoldable pub hop_text : Element → List ℕ
-hop_text e = bar ++ origin_text e.origin ++ bar ++ address_text e.next_hop
+-- what stands before the path
+abbrev pub begin_text : Element → List ℕ
+begin_text e = peer_text e ++ between_text e.prefix
 
-unfoldable pub preference_text : Element → List ℕ
-preference_text e = hop_text e ++ bar ++ number_text e.local_pref
-
+-- what stands behind it, in Display's line
 unfoldable pub attributes_text : Element → List ℕ
-attributes_text e = preference_text e ++ bar ++ number_text e.metric ++ ascii "||false||"
+attributes_text e = bar ++ origin_text e.origin ++ bar ++ address_text e.next_hop ++ bar ++ number_text e.local_pref ++ bar ++ number_text e.metric ++ ascii "||false||"
 
-unfoldable pub tail_text : Bool → Element → List ℕ
-tail_text psv e = cond psv (bar ++ asn_text e.origin_asn ++ attributes_text e ++ bar) (attributes_text e)
+-- and in to_psv's
+unfoldable pub tail_text : Element → List ℕ
+tail_text e = bar ++ asn_text e.origin_asn ++ attributes_text e ++ bar
 
--- what stands behind the front
-unfoldable pub rest_text : Bool → Element → List ℕ → List ℕ
-rest_text psv e asns = between_text e.prefix ++ sequence_text (numbers e asns) ++ tail_text psv e
-
-abbrev pub line_text : Bool → Element → List ℕ → List ℕ
-line_text psv e asns = peer_text e ++ rest_text psv e asns
+-- the line that ends so
+abbrev pub line_text : List ℕ → Element → List ℕ → List ℕ
+line_text tail e asns = begin_text e ++ sequence_text (numbers e asns) ++ tail
 
 -- a line whose texts are at hand: all up to the path, the path, and the origin AS; of the element only the fields behind them
 unfoldable pub texts_line : List ℕ → List ℕ → List ℕ → Element → List ℕ

@@ -1,16 +1,16 @@
 // An element printed as the Rust prints it: the PSV line, its header, and Display.
 #![tactic(auto)]
 
-ghost use Rattle.std.specs.Prelude.{◌≡◌, true, false, ◌++◌, ◌+◌, ◌*◌, length, leb};
-ghost use Rattle.output.specs.Output.{Written, front, answer};
+ghost use Rattle.std.specs.Prelude.{◌≡◌, ◌≤◌, ◌++◌, ◌+◌, ◌-◌, SomeIff, length, leb};
+ghost use Rattle.output.specs.Output.{front, answer};
+ghost use Rattle.output.specs.Writing.{Writes};
 ghost use Rattle.seconds.specs.Seconds.{second_of};
-ghost use Rattle.aspath_display.specs.Display.{Measured};
-ghost use Rattle.elem.specs.Element.{spoilt};
-ghost use Rattle.psv.specs.Line.{header_text, type_text, time_text, sequence_text, asn_text, origin_text, number_text, psv_text, display_text, start_text, front_text, between_text, hop_text, preference_text, attributes_text, tail_text, rest_text, line_text, texts_line, Printed};
+ghost use Rattle.elem.specs.Element.{spoilt, numbers};
+ghost use Rattle.psv.specs.Line.{header_text, type_text, time_text, sequence_text, asn_text, origin_text, number_text, psv_text, display_text, front_text, between_text, begin_text, attributes_text, tail_text, line_text, texts_line, Printed};
 
 use elem::{Element, Origin};
 use network::{Asn, IpAddr, NetworkPrefix};
-use output::PutError;
+use output::{PutError, Writer};
 
 #[derive(Debug, Clone, Copy, PartialEq, Eq)]
 pub enum ElementError {
@@ -18,290 +18,182 @@ pub enum ElementError {
     TooShort,
 }
 
-// The fields before the path.
+// What stands before the path.
 
-fn write_type(announce: bool, out: &mut [u8], at: usize) -> usize
-    ensures { Written (type_text announce) out.old at out.new result }
+fn write_type(announce: bool, w: &mut Writer)
+    ensures { Writes (type_text announce) w.old w.new }
 {
     if announce {
-        output::write_byte(b'A', out, at)
+        w.byte(b'A');
     } else {
-        output::write_byte(b'W', out, at)
+        w.byte(b'W');
     }
 }
 
-fn write_time(t: f64, out: &mut [u8], at: usize) -> usize
-    ensures { Written (time_text (second_of t)) out.old at out.new result }
+#[tactic(auto, unfolding(crate::specs::Line::time_text))]
+fn write_time(timestamp: f64, w: &mut Writer)
+    ensures { Writes (time_text (second_of timestamp)) w.old w.new }
 {
-    match seconds::second_of(t) {
-        Some(second) => seconds::write_timestamp(second, out, at),
-        None => at,
+    if let Some(second) = seconds::second_of(timestamp) {
+        seconds::write_timestamp(second, w);
     }
 }
 
-fn write_start(announce: bool, timestamp: f64, out: &mut [u8], at: usize) -> usize
-    ensures { Written (start_text announce timestamp) out.old at out.new result }
+fn write_front(announce: bool, timestamp: f64, peer_ip: IpAddr, peer_asn: Asn, w: &mut Writer)
+    ensures { Writes (front_text announce timestamp peer_ip peer_asn) w.old w.new }
 {
-    let a = write_type(announce, out, at);
-    let b = output::write_byte(b'|', out, a);
-    let c = write_time(timestamp, out, b);
-    output::write_byte(b'|', out, c)
-}
-
-fn write_front(
-    announce: bool,
-    timestamp: f64,
-    peer_ip: IpAddr,
-    peer_asn: Asn,
-    out: &mut [u8],
-    at: usize,
-) -> usize
-    ensures { Written (front_text announce timestamp peer_ip peer_asn) out.old at out.new result }
-{
-    let a = write_start(announce, timestamp, out, at);
-    let b = network_display::write_address(peer_ip, out, a);
-    let c = output::write_byte(b'|', out, b);
-    decimal_display::write_u32(peer_asn.0, out, c)
+    write_type(announce, w);
+    w.byte(b'|');
+    write_time(timestamp, w);
+    w.byte(b'|');
+    network_display::write_address(peer_ip, w);
+    w.byte(b'|');
+    decimal_display::write_u32(peer_asn.0, w);
 }
 
 // The field of the prefix, with the bars around it: at most 68 bytes.
-pub fn write_between(prefix: NetworkPrefix, out: &mut [u8], at: usize) -> usize
-    ensures { Written (between_text prefix) out.old at out.new result }
+pub fn write_between(prefix: NetworkPrefix, w: &mut Writer)
+    ensures { Writes (between_text prefix) w.old w.new }
 {
-    let a = output::write_byte(b'|', out, at);
-    let end = network_display::write_prefix(prefix, out, a);
-    output::write_byte(b'|', out, end)
+    w.byte(b'|');
+    network_display::write_prefix(prefix, w);
+    w.byte(b'|');
 }
 
-// The path, one sequence.
-
-// Whether the numbers have room; they may be too many to add their lengths up.
-fn has_room(numbers: &[u32], room: usize) -> bool
-    ensures { result ≡ leb (length (sequence_text numbers.now)) room }
+fn write_begin(e: Element, w: &mut Writer)
+    ensures { Writes (begin_text e) w.old w.new }
 {
-    let mut left = room;
-    let mut first = true;
-    let mut i = 0;
-    while i < numbers.len() {
-        let n = aspath_display::number_len(first, b' ', numbers[i]);
-        if left < n {
-            return false;
-        }
-        left -= n;
-        first = false;
-        i += 1;
-    }
-    true
+    write_front(e.announce, e.timestamp, e.peer_ip, e.peer_asn, w);
+    write_between(e.prefix, w);
 }
 
-// The fields behind the path.
+// What stands behind the path. It is inlined where it is printed, so that the writer stays in registers.
 
-fn asn_len(a: Option<Asn>) -> usize
-    ensures { Measured (asn_text a) 20 result }
+#[tactic(auto, unfolding(crate::specs::Line::number_text))]
+#[inline(always)]
+fn write_number(number: Option<u32>, w: &mut Writer)
+    ensures { Writes (number_text number) w.old w.new }
 {
-    match a {
-        Some(asn) => decimal_display::decimal_len(asn.0 as u64),
-        None => 0,
+    if let Some(n) = number {
+        decimal_display::write_u32(n, w);
     }
 }
 
-fn write_asn(a: Option<Asn>, out: &mut [u8], at: usize) -> usize
-    ensures { Written (asn_text a) out.old at out.new result }
+#[tactic(auto, unfolding(crate::specs::Line::origin_text))]
+#[inline(always)]
+fn write_origin(origin: Option<Origin>, w: &mut Writer)
+    ensures { Writes (origin_text origin) w.old w.new }
 {
-    match a {
-        Some(asn) => decimal_display::write_u32(asn.0, out, at),
-        None => at,
-    }
-}
-
-fn u32_len(n: Option<u32>) -> usize
-    ensures { Measured (number_text n) 20 result }
-{
-    match n {
-        Some(v) => decimal_display::decimal_len(v as u64),
-        None => 0,
-    }
-}
-
-fn write_u32(n: Option<u32>, out: &mut [u8], at: usize) -> usize
-    ensures { Written (number_text n) out.old at out.new result }
-{
-    match n {
-        Some(v) => decimal_display::write_u32(v, out, at),
-        None => at,
-    }
-}
-
-fn origin_len(o: Option<Origin>) -> usize
-    ensures { Measured (origin_text o) 10 result }
-{
-    let Some(origin) = o else {
-        return 0;
-    };
     match origin {
-        Origin::IGP => 3,
-        Origin::EGP => 3,
-        Origin::INCOMPLETE => 10,
+        Some(Origin::IGP) => w.bytes(b"IGP"),
+        Some(Origin::EGP) => w.bytes(b"EGP"),
+        Some(Origin::INCOMPLETE) => w.bytes(b"INCOMPLETE"),
+        None => {}
     }
 }
 
-fn write_origin(o: Option<Origin>, out: &mut [u8], at: usize) -> usize
-    ensures { Written (origin_text o) out.old at out.new result }
+#[inline(always)]
+fn write_attributes(e: Element, w: &mut Writer)
+    ensures { Writes (attributes_text e) w.old w.new }
 {
-    let Some(origin) = o else {
-        return at;
-    };
-    match origin {
-        Origin::IGP => output::write_bytes(b"IGP", out, at),
-        Origin::EGP => output::write_bytes(b"EGP", out, at),
-        Origin::INCOMPLETE => output::write_bytes(b"INCOMPLETE", out, at),
-    }
+    w.byte(b'|');
+    write_origin(e.origin, w);
+    w.byte(b'|');
+    network_display::write_address(e.next_hop, w);
+    w.byte(b'|');
+    write_number(e.local_pref, w);
+    w.byte(b'|');
+    write_number(e.metric, w);
+    w.bytes(b"||false||");
 }
 
-fn attributes_len(e: Element) -> usize
-    ensures { Measured (attributes_text e) 108 result }
+fn write_tail(e: Element, w: &mut Writer)
+    ensures { Writes (tail_text e) w.old w.new }
 {
-    let origin = e.origin;
-    let next_hop = e.next_hop;
-    let local_pref = e.local_pref;
-    let metric = e.metric;
-    let a = origin_len(origin);
-    let b = network_display::address_len(next_hop);
-    let c = u32_len(local_pref);
-    13 + a + b + c + u32_len(metric)
-}
-
-fn write_hop(e: Element, out: &mut [u8], at: usize) -> usize
-    ensures { Written (hop_text e) out.old at out.new result }
-{
-    let origin = e.origin;
-    let next_hop = e.next_hop;
-    let a = output::write_byte(b'|', out, at);
-    let b = write_origin(origin, out, a);
-    let c = output::write_byte(b'|', out, b);
-    network_display::write_address(next_hop, out, c)
-}
-
-fn write_preference(e: Element, out: &mut [u8], at: usize) -> usize
-    ensures { Written (preference_text e) out.old at out.new result }
-{
-    let preference = e.local_pref;
-    let a = write_hop(e, out, at);
-    let b = output::write_byte(b'|', out, a);
-    write_u32(preference, out, b)
-}
-
-fn write_attributes(e: Element, out: &mut [u8], at: usize) -> usize
-    ensures { Written (attributes_text e) out.old at out.new result }
-{
-    let med = e.metric;
-    let a = write_preference(e, out, at);
-    let b = output::write_byte(b'|', out, a);
-    let c = write_u32(med, out, b);
-    output::write_bytes(b"||false||", out, c)
-}
-
-fn tail_len(psv: bool, e: Element) -> usize
-    ensures { Measured (tail_text psv e) 130 result }
-{
-    let origin_asn = e.origin_asn;
-    let n = attributes_len(e);
-    if psv { 2 + asn_len(origin_asn) + n } else { n }
-}
-
-fn write_tail(psv: bool, e: Element, out: &mut [u8], at: usize) -> usize
-    ensures { Written (tail_text psv e) out.old at out.new result }
-{
-    let origin_asn = e.origin_asn;
-    if psv {
-        let a = output::write_byte(b'|', out, at);
-        let b = write_asn(origin_asn, out, a);
-        let c = write_attributes(e, out, b);
-        return output::write_byte(b'|', out, c);
-    }
-    write_attributes(e, out, at)
+    w.byte(b'|');
+    write_number(e.origin_asn.map(|asn| asn.0), w);
+    write_attributes(e, w);
+    w.byte(b'|');
 }
 
 // The line.
 
-// Whether what stands behind the front fits whatever it holds, with so many numbers. The bounds are those that its parts are measured with:
-// 68 bytes before the path and 130 behind it, 198 in all, and 21 for a number with its separator.
-fn surely_fits(count: usize, room: usize) -> bool
-    ensures { result ≡ leb (198 + 21 * count) room }
+// Whether the path has room. Its numbers may be too many to add their lengths up.
+fn has_room(numbers: &[u32], room: usize) -> bool
+    ensures { result ≡ leb (length (sequence_text numbers.now)) room }
 {
-    if room < 198 {
-        return false;
-    }
-    count <= (room - 198) / 21
-}
-
-// Measured only where it is not sure: to measure an address is to write it.
-fn rest_fits(psv: bool, e: Element, numbers: &[u32], room: usize) -> bool
-    ensures { result ≡ leb (length (between_text e.prefix ++ sequence_text numbers.now ++ tail_text psv e)) room }
-{
-    if surely_fits(numbers.len(), room) {
+    // Most paths have: a number and its space are at most 21 bytes.
+    let surely = numbers.len() <= room / 21;
+    if surely {
         return true;
     }
-    let prefix = e.prefix;
-    let around = 2 + network_display::prefix_text_len(prefix) + tail_len(psv, e);
-    if room < around {
-        return false;
+    let mut left = room;
+    let mut first = true;
+    for number in numbers {
+        let n = aspath_display::number_len(first, b' ', *number);
+        let Some(rest) = left.checked_sub(n) else {
+            return false;
+        };
+        left = rest;
+        first = false;
     }
-    has_room(numbers, room - around)
+    true
 }
 
-// The same behind a front so long.
-fn line_fits(psv: bool, front_len: usize, e: Element, numbers: &[u32], room: usize) -> bool
-    ensures { result ≡ leb (front_len + length (between_text e.prefix ++ sequence_text numbers.now ++ tail_text psv e)) room }
-{
-    if room < front_len {
-        return false;
-    }
-    rest_fits(psv, e, numbers, room - front_len)
-}
-
-// The line behind any front.
-fn put_behind(
-    psv: bool,
-    front: &[u8],
-    e: Element,
-    asns: &[u32],
-    out: &mut [u8],
-) -> Result<usize, ElementError>
-    ensures { Printed (spoilt e asns.now) (front.now ++ rest_text psv e asns.now) out.old result out.new }
+// The line that ends so: what stands before its path has at most 158 bytes.
+fn put_line(e: Element, asns: &[u32], tail: &[u8], out: &mut [u8]) -> Result<usize, ElementError>
+    requires { length tail.now ≤ 130 }
+    ensures { Printed (spoilt e asns.now) (line_text tail.now e asns.now) out.old result out.new }
 {
     if elem::is_spoilt_element(e, asns) {
         return Err(ElementError::Spoilt);
     }
-    let count = e.count;
-    let numbers = &asns[..count];
-    let prefix = e.prefix;
-    if line_fits(psv, front.len(), e, numbers, out.len()) {
-        let a = output::write_bytes(front, out, 0);
-        let b = write_between(prefix, out, a);
-        let c = aspath_display::write_numbers(numbers, b' ', out, b);
-        return Ok(write_tail(psv, e, out, c));
+    let mut begin = [0u8; 158];
+    let mut w = Writer {
+        out: &mut begin,
+        at: 0,
+    };
+    write_begin(e, &mut w);
+    let n = w.at;
+    let numbers = &asns[..e.count];
+    let Some(room) = out.len().checked_sub(n + tail.len()) else {
+        return Err(ElementError::TooShort);
+    };
+    if !has_room(numbers, room) {
+        return Err(ElementError::TooShort);
     }
-    Err(ElementError::TooShort)
-}
-
-// The line behind its own front, which has at most 90 bytes.
-fn put_line(psv: bool, e: Element, asns: &[u32], out: &mut [u8]) -> Result<usize, ElementError>
-    ensures { Printed (spoilt e asns.now) (line_text psv e asns.now) out.old result out.new }
-{
-    let announce = e.announce;
-    let timestamp = e.timestamp;
-    let peer_ip = e.peer_ip;
-    let peer_asn = e.peer_asn;
-    let mut front = [0u8; 90];
-    let n = write_front(announce, timestamp, peer_ip, peer_asn, &mut front, 0);
-    put_behind(psv, &front[..n], e, asns, out)
+    let mut w = Writer { out, at: 0 };
+    w.bytes(&begin[..n]);
+    aspath_display::write_numbers(numbers, b' ', &mut w);
+    w.bytes(tail);
+    Ok(w.at)
 }
 
 pub fn to_psv(e: Element, asns: &[u32], out: &mut [u8]) -> Result<usize, ElementError>
     ensures { Printed (spoilt e asns.now) (psv_text e asns.now) out.old result out.new }
 {
-    put_line(true, e, asns, out)
+    let mut places = [0u8; 130];
+    let mut tail = Writer {
+        out: &mut places,
+        at: 0,
+    };
+    write_tail(e, &mut tail);
+    let n = tail.at;
+    put_line(e, asns, &places[..n], out)
+}
+
+// Display of the element.
+pub fn display_element(e: Element, asns: &[u32], out: &mut [u8]) -> Result<usize, ElementError>
+    ensures { Printed (spoilt e asns.now) (display_text e asns.now) out.old result out.new }
+{
+    let mut places = [0u8; 108];
+    let mut tail = Writer {
+        out: &mut places,
+        at: 0,
+    };
+    write_attributes(e, &mut tail);
+    let n = tail.at;
+    put_line(e, asns, &places[..n], out)
 }
 
 // What a line begins with: the same for all elements of a peer and a time.
@@ -315,51 +207,45 @@ pub fn put_front(
     ensures { (result ≡ answer (front_text announce timestamp peer_ip peer_asn) out.old) × (out.new ≡ front (front_text announce timestamp peer_ip peer_asn) out.old) }
 {
     let mut text = [0u8; 90];
-    let n = write_front(announce, timestamp, peer_ip, peer_asn, &mut text, 0);
+    let mut w = Writer {
+        out: &mut text,
+        at: 0,
+    };
+    write_front(announce, timestamp, peer_ip, peer_asn, &mut w);
+    let n = w.at;
     if out.len() < n {
         return Err(PutError::TooShort);
     }
-    Ok(output::write_bytes(&text[..n], out, 0))
+    let mut w = Writer { out, at: 0 };
+    w.bytes(&text[..n]);
+    Ok(w.at)
 }
 
 // The line of texts that are at hand.
 
-// Whether texts of four lengths have room; they may be too large to add up.
-fn four_fit(a: usize, b: usize, c: usize, d: usize, room: usize) -> bool
-    ensures { result ≡ leb (a + b + c + d) room }
+// Whether the attributes and the bars around them, 110 bytes at most, have room. They are measured
+// only where that is not sure: to measure an address is to write it.
+fn attributes_fit(e: Element, room: usize) -> bool
+    ensures { result ≡ leb (2 + length (attributes_text e)) room }
 {
-    if room < a {
-        return false;
-    }
-    if room - a < b {
-        return false;
-    }
-    if room - a - b < c {
-        return false;
-    }
-    d <= room - a - b - c
-}
-
-// Beside the three texts stand two bars and the attributes, 110 bytes at most; measured only where it is not sure.
-fn texts_fit(begin_len: usize, path_len: usize, asn_len: usize, e: Element, room: usize) -> bool
-    ensures { result ≡ leb (2 + length (attributes_text e) + begin_len + path_len + asn_len) room }
-{
-    if four_fit(110, begin_len, path_len, asn_len, room) {
+    let surely = 110 <= room;
+    if surely {
         return true;
     }
-    let beside = 2 + attributes_len(e);
-    four_fit(beside, begin_len, path_len, asn_len, room)
+    let mut places = [0u8; 108];
+    let mut w = Writer {
+        out: &mut places,
+        at: 0,
+    };
+    write_attributes(e, &mut w);
+    2 + w.at <= room
 }
 
-fn write_texts(begin: &[u8], path: &[u8], origin_asn: &[u8], e: Element, out: &mut [u8]) -> usize
-    ensures { Written (texts_line begin.now path.now origin_asn.now e) out.old 0 out.new result }
+// What three lengths leave of the room; they may be too large to add up.
+fn left_of(room: usize, a: usize, b: usize, c: usize) -> Option<usize>
+    ensures { SomeIff result (a + b + c ≤ room) (room - (a + b + c)) }
 {
-    let a = output::write_bytes(begin, out, 0);
-    let b = output::write_bytes(path, out, a);
-    let c = output::write_byte(b'|', out, b);
-    let d = output::write_bytes(origin_asn, out, c);
-    let f = write_attributes(e, out, d);
-    output::write_byte(b'|', out, f)
+    room.checked_sub(a)?.checked_sub(b)?.checked_sub(c)
 }
 
 // to_psv's line of texts that are not looked at: what stands before the path, the path and the origin AS. Of the element only its origin, next hop,
@@ -373,17 +259,20 @@ pub fn put_texts(
 ) -> Result<usize, PutError>
     ensures { (result ≡ answer (texts_line begin.now path.now origin_asn.now e) out.old) × (out.new ≡ front (texts_line begin.now path.now origin_asn.now e) out.old) }
 {
-    if texts_fit(begin.len(), path.len(), origin_asn.len(), e, out.len()) {
-        return Ok(write_texts(begin, path, origin_asn, e, out));
+    let Some(left) = left_of(out.len(), begin.len(), path.len(), origin_asn.len()) else {
+        return Err(PutError::TooShort);
+    };
+    if !attributes_fit(e, left) {
+        return Err(PutError::TooShort);
     }
-    Err(PutError::TooShort)
-}
-
-// Display of the element.
-pub fn display_element(e: Element, asns: &[u32], out: &mut [u8]) -> Result<usize, ElementError>
-    ensures { Printed (spoilt e asns.now) (display_text e asns.now) out.old result out.new }
-{
-    put_line(false, e, asns, out)
+    let mut w = Writer { out, at: 0 };
+    w.bytes(begin);
+    w.bytes(path);
+    w.byte(b'|');
+    w.bytes(origin_asn);
+    write_attributes(e, &mut w);
+    w.byte(b'|');
+    Ok(w.at)
 }
 
 pub fn get_psv_header(out: &mut [u8]) -> Result<usize, PutError>
@@ -393,9 +282,9 @@ pub fn get_psv_header(out: &mut [u8]) -> Result<usize, PutError>
     if short {
         return Err(PutError::TooShort);
     }
-    Ok(output::write_bytes(
+    let mut w = Writer { out, at: 0 };
+    w.bytes(
         b"type|timestamp|peer_ip|peer_asn|prefix|as_path|origin_asns|origin|next_hop|local_pref|med|communities|atomic|aggr_asn|aggr_ip|only_to_customer",
-        out,
-        0,
-    ))
+    );
+    Ok(w.at)
 }

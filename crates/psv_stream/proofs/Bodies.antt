@@ -35,8 +35,8 @@ use Rattle.psv_stream.specs.declared.Ran.{Ran}
 use Rattle.psv_stream.specs.Refusal.{number as number_of}
 use Rattle.psv_stream.specs.declared.Refusal.{Refusal}
 use Rattle.psv_stream.specs.declared.Place.{Place}
-use Rattle.psv_stream.specs.declared.BodyStep.{BodyStep}
-use Rattle.psv_stream.specs.declared.BodyStep.TheVariants as step
+use Rattle.psv_stream.specs.declared.Step.{Step}
+use Rattle.psv_stream.specs.declared.Step.TheVariants as step
 use Rattle.psv_stream.proofs.Texts.{puts_none}
 use Rattle.psv_stream.proofs.Lines.{refused_does}
 use Rattle.psv_stream.proofs.Steps as steps
@@ -45,12 +45,12 @@ use Rattle.psv_stream.proofs.Runs.{left, room, new, none_yet, runs}
 use Rattle.psv_stream.proofs.Routes.{none_begun, text_keeps}
 
 -- what a line does
-module _ (σ : State) (b : Place) (start : List ℕ) (n : ℕ) (kept : Kept σ start n b) (l : List ℕ) (one : lines l ≡ l ∷ []) (number : ℕ) (counted : number ≡ after b.number) where
+module _ (σ : State) (b : Place) (start : List ℕ) (n : ℕ) (kept : Kept σ start n b) (l : List ℕ) (one : lines l ≡ l ∷ []) where
   abbrev here : State
   here = state_of σ b
 
   abbrev there : ℕ → Packed → ℕ → Place
-  there j q k = record { position = j; number = number; start_len = k; memory = q }
+  there j q k = record { position = j; number = after b.number; start_len = k; memory = q }
 
   -- what is remembered is in the state, too
   same : plain here.remembered ≡ plain (remembered_in b.memory)
@@ -65,11 +65,11 @@ module _ (σ : State) (b : Place) (start : List ℕ) (n : ℕ) (kept : Kept σ s
   -- a line that only moves the state
   moves : (q : Packed) (k : ℕ) → next_of here l ≡ (end, moved σ (record { at = length l; remembered = plain (remembered_in q) })) → (out : List ℕ)
       → BodyDoes σ b l out out (step.Took (length l) 0 (there (length l) q k))
-  moves q k f out s = rw (f, counted) (puts_none out, refl, omega arith)
+  moves q k f out s = rw f (puts_none out, refl, omega arith)
 
   module _ (y : Line) (c : y ≡ line_of σ.columns l) where
-    pub six : y ≡ read.Unreadable → (out new : List ℕ) (w : ℕ) → Puts (refusal_text 6 number) out new w → BodyDoes σ b l out new (step.Stops w)
-    six h out new w d s = refused_does s (length l) out (acts (phase_of σ b) l) 6 number (rw (unreadable_line_lem here l 16384 one fine_here y c h, counted)) new w d
+    pub six : y ≡ read.Unreadable → (out new : List ℕ) (w : ℕ) → Puts (refusal_text 6 (after b.number)) out new w → BodyDoes σ b l out new (step.Stops w)
+    six h out new w d s = refused_does s (length l) out (acts (phase_of σ b) l) 6 (after b.number) (rw (unreadable_line_lem here l 16384 one fine_here y c h)) new w d
 
     pub passed : y ≡ read.Passed → (out : List ℕ) → BodyDoes σ b l out out (step.Took (length l) 0 (there (length l) b.memory b.start_len))
     passed h =
@@ -118,56 +118,72 @@ module _ (σ : State) (b : Place) (start : List ℕ) (n : ℕ) (kept : Kept σ s
       pub bare_keeps : Kept σ start n (there (length l) q 0)
       bare_keeps = record { fine = fine_behind; begins = none_begun start n (remembered_in b.memory) b.start_len m (front_of σ) kept.begins }
 
-    -- under one
-    module _ (p : NetworkPrefix) (v : m ≡ remembered.Valid p) where
-      pub fine_prefix : Fine σ (remembered.Valid p)
-      fine_prefix = rw v at fine_behind
+-- a route's line under a valid prefix p, with the prefix text x; q remembers p
+pub record Under (σ : State) (b : Place) (start : List ℕ) (n : ℕ) (l : List ℕ) (x : PrefixText) (e : RouteEntry) (q : Packed) (p : NetworkPrefix) : Type 0 where
+  pub kept : Kept σ start n b
+  pub one : lines l ≡ l ∷ []
+  pub line : read.Route e x ≡ line_of σ.columns l
+  pub memory : plain (remembered_in q) ≡ replace (text_of x) (plain (remembered_in b.memory))
+  pub prefix : remembered_in q ≡ remembered.Valid p
 
-      abbrev behind : State
-      behind = moved σ (record { at = length l; remembered = valid p })
+module _ {σ : State} {b : Place} {start : List ℕ} {n : ℕ} {l : List ℕ} {x : PrefixText} {e : RouteEntry} {q : Packed} {p : NetworkPrefix} (u : Under σ b start n l x e q p) where
+  fine_after : Fine σ (remembered_in q)
+  fine_after = fine_behind σ b start n u.kept l u.one x e u.line q u.memory
 
-      is_routed : answered number (next_of here l).0 (next_of here l).1 ≡ routed σ p e (asns_of (path_of e l)) number behind
-      is_routed = go (leb (length (asns_of (path_of e l))) 16384) refl
-        where
-          under : replace (text_of x) (plain here.remembered) ≡ valid p
-          under = sym brought ∙ ap plain v
+  pub fine_prefix : Fine σ (remembered.Valid p)
+  fine_prefix = rw u.prefix at fine_after
 
-          go : (q : Bool) → leb (length (asns_of (path_of e l))) 16384 ≡ q
-              → answered number (next_of here l).0 (next_of here l).1
-              ≡ cond q (printed_element number behind (element_for σ p e (asns_of (path_of e l))) (asns_of (path_of e l))) (refuse 7 number)
-          go true f = rw (yielding_route here l 16384 one fine_here (read.Route e x) c x e refl p under (leb-true _ 16384 f))
-          go false f = rw (long_route here l 16384 one fine_here (read.Route e x) c x e refl p under (leb-false _ 16384 f))
+  abbrev before_it : State
+  before_it = state_of σ b
 
-      acts_so : acts (phase_of σ b) l ≡ routed σ p e (asns_of (path_of e l)) number behind
-      acts_so = rw (← counted) is_routed
+  abbrev behind : State
+  behind = moved σ (record { at = length l; remembered = valid p })
 
-      module _ (out new : List ℕ) (r : Result ℕ Refusal) (put : PutRoute σ p e (asns_of (path_of e l)) out new r) where
-        pub route_wrote : (w k : ℕ) → r ≡ Ok w → BodyDoes σ b l out new (step.Took (length l) w (there (length l) q k))
-        route_wrote w k f s =
-            let h : PutRoute σ p e (asns_of (path_of e l)) out new (Ok w) = rw f at put in
-            rw (acts_so, h.0 number behind) (h.1, rw v, omega arith)
+  abbrev next_place : ℕ → Place
+  next_place k = record { position = length l; number = after b.number; start_len = k; memory = q }
 
-        pub route_refused : (z : Refusal) → r ≡ Err z → (newer : List ℕ) (w : ℕ) → Puts (refusal_text (number_of z) number) new newer w → BodyDoes σ b l out newer (step.Stops w)
-        route_refused z f newer w d s =
-            let h : PutRoute σ p e (asns_of (path_of e l)) out new (Err z) = rw f at put in
-            refused_does s (length l) out (acts (phase_of σ b) l) (number_of z) number (acts_so ∙ h.0 number behind) newer w (rw h.1 at d)
+  under : replace (text_of x) (plain before_it.remembered) ≡ valid p
+  under = sym (brought σ b start n u.kept l u.one x e u.line q u.memory) ∙ ap plain u.prefix
 
-      -- behind what its line begins with
-      module _ (k : ℕ) (short : k ≡ kept_len x b.start_len) (start' : List ℕ) (k' : ℕ) (printed : (f : List ℕ) → Begins f start n (remembered.Valid p) k → Begins f start' n (remembered.Valid p) k') where
-        begun_there : Begins (front_of σ) start' n (remembered.Valid p) k'
-        begun_there = printed (front_of σ) (rw v at (begun_behind k short))
+  not_spoilt : spoilt (turned before_it) (length l) ≡ false
+  not_spoilt = fine_here σ b start n u.kept l u.one
 
-        pub begin_inside : k' ≤ length start'
-        begin_inside = begun_there.inside
+  acts_so : acts (phase_of σ b) l ≡ routed σ p e (asns_of (path_of e l)) (after b.number) behind
+  acts_so = go (leb (length (asns_of (path_of e l))) 16384) refl
+    where
+      go : (z : Bool) → leb (length (asns_of (path_of e l))) 16384 ≡ z
+          → answered (after b.number) (next_of before_it l).0 (next_of before_it l).1
+          ≡ cond z (printed_element (after b.number) behind (element_for σ p e (asns_of (path_of e l))) (asns_of (path_of e l))) (refuse 7 (after b.number))
+      go true f = rw (yielding_route before_it l 16384 u.one not_spoilt (read.Route e x) u.line x e refl p under (leb-true _ 16384 f))
+      go false f = rw (long_route before_it l 16384 u.one not_spoilt (read.Route e x) u.line x e refl p under (leb-false _ 16384 f))
 
-        pub begin_size : k' ≡ length (take k' start')
-        begin_size = rw length-take (omega (arith, begin_inside))
+  module _ (out new : List ℕ) (r : Result ℕ Refusal) (put : PutRoute σ p e (asns_of (path_of e l)) out new r) where
+    pub route_wrote : (w k : ℕ) → r ≡ Ok w → BodyDoes σ b l out new (step.Took (length l) w (next_place k))
+    route_wrote w k f s =
+        let h : PutRoute σ p e (asns_of (path_of e l)) out new (Ok w) = rw f at put in
+        rw (acts_so, h.0 (after b.number) behind) (h.1, rw u.prefix, omega arith)
 
-        pub begin_is : 0 < length (take k' start') → take k' start' ≡ front_of σ ++ between_text p
-        begin_is h = begun_there.is_begin p refl (omega (arith, length-take k' start'))
+    pub route_refused : (z : Refusal) → r ≡ Err z → (newer : List ℕ) (w : ℕ) → Puts (refusal_text (number_of z) (after b.number)) new newer w → BodyDoes σ b l out newer (step.Stops w)
+    route_refused z f newer w d s =
+        let h : PutRoute σ p e (asns_of (path_of e l)) out new (Err z) = rw f at put in
+        refused_does s (length l) out (acts (phase_of σ b) l) (number_of z) (after b.number) (acts_so ∙ h.0 (after b.number) behind) newer w (rw h.1 at d)
 
-        pub route_keeps : Kept σ start' n (there (length l) q k')
-        route_keeps = record { fine = fine_behind; begins = rw v begun_there }
+  -- behind what its line begins with
+  module _ (k : ℕ) (short : k ≡ kept_len x b.start_len) (start' : List ℕ) (k' : ℕ) (printed : (f : List ℕ) → Begins f start n (remembered.Valid p) k → Begins f start' n (remembered.Valid p) k') where
+    begun_there : Begins (front_of σ) start' n (remembered.Valid p) k'
+    begun_there = printed (front_of σ) (rw u.prefix at (begun_behind σ b start n u.kept l u.one x e u.line q u.memory k short))
+
+    pub begin_inside : k' ≤ length start'
+    begin_inside = begun_there.inside
+
+    pub begin_size : k' ≡ length (take k' start')
+    begin_size = rw length-take (omega (arith, begin_inside))
+
+    pub begin_is : 0 < length (take k' start') → take k' start' ≡ front_of σ ++ between_text p
+    begin_is h = begun_there.is_begin p refl (omega (arith, length-take k' start'))
+
+    pub route_keeps : Kept σ start' n (next_place k')
+    route_keeps = record { fine = fine_after; begins = rw u.prefix begun_there }
 
 -- the line that comes next
 module _ (σ : State) (b : Place) (s : List ℕ) (ended : Bool) (f : Front) (known : Fronts s 0 ended f) where
@@ -189,18 +205,18 @@ module _ (σ : State) (b : Place) (s : List ℕ) (ended : Bool) (f : Front) (kno
   pub end_steps : f ≡ front.Nothing → (out : List ℕ) → Steps (phase_of σ b) s ended out out (step_of σ (step.Stops 0))
   end_steps g out = steps.end_steps (phase_of σ b) s ended 0 refl f known out out 0 g (puts_none out)
 
-  pub long_steps : f ≡ front.TooLong → (number : ℕ) → number ≡ after b.number → (out new : List ℕ) (w : ℕ) → Puts (refusal_text 13 number) out new w
+  pub long_steps : f ≡ front.TooLong → (out new : List ℕ) (w : ℕ) → Puts (refusal_text 13 (after b.number)) out new w
       → Steps (phase_of σ b) s ended out new (step_of σ (step.Stops w))
-  long_steps g number counted out new w d = steps.long_steps (phase_of σ b) s ended 0 refl f known out new w g (rw counted at d)
+  long_steps g out new w d = steps.long_steps (phase_of σ b) s ended 0 refl f known out new w g d
 
-  pub line_steps : (e : ℕ) → f ≡ front.Line e → (out new : List ℕ) (r : BodyStep) → BodyDoes σ b (take e s) out new r
+  pub line_steps : (e : ℕ) → f ≡ front.Line e → (out new : List ℕ) (r : Step Place) → BodyDoes σ b (take e s) out new r
       → Steps (phase_of σ b) s ended out new (step_of σ r)
   line_steps e g out new r d =
       steps.line_steps (phase_of σ b) s ended 0 refl f known out new (step_of σ r) e g (rw (← line_size e g) at (d s))
 
--- the loop
-abbrev pub At : State → ℕ → List ℕ → Bool → List ℕ → Place → ℕ → ℕ → List ℕ → Type 0
-At σ number s ended out₀ b c w out = Came (Body σ number) s ended out₀ (phase_of σ b) c w out
+-- the loop: where its lines have come to
+pub record At (σ : State) (number : ℕ) (s : List ℕ) (ended : Bool) (out₀ : List ℕ) (b : Place) (c w : ℕ) (out : List ℕ) : Type 0 where
+  pub lines : Came (Body σ number) s ended out₀ (phase_of σ b) c w out
 
 module _ (σ : State) (number : ℕ) where
   abbrev first : Packed → Place
@@ -208,14 +224,18 @@ module _ (σ : State) (number : ℕ) where
 
   module _ (q : Packed) (v : remembered_in q ≡ σ.remembered) where
     pub none_taken : (s : List ℕ) (ended : Bool) (out : List ℕ) → At σ number s ended out (first q) 0 0 out
-    none_taken s ended out = rw v (subst (λ (z : State). Came (Body σ number) s ended out (Body z number) 0 0 out) (sym (moved_cursor σ)) (none_yet (Body σ number) s ended out))
+    none_taken s ended out =
+        record { lines = rw v (subst (λ (z : State). Came (Body σ number) s ended out (Body z number) 0 0 out) (sym (moved_cursor σ)) (none_yet (Body σ number) s ended out)) }
 
     pub first_kept : (start : List ℕ) (n : ℕ) → Fine σ σ.remembered → Begins (front_of σ) start n σ.remembered 0 → Kept σ start n (first q)
     first_kept start n f g = record { fine = rw v f; begins = rw v g }
 
-module _ (σ : State) (number : ℕ) (s : List ℕ) (ended : Bool) (out₀ : List ℕ) (b : Place) (c w : ℕ) (out : List ℕ) (came : At σ number s ended out₀ b c w out) where
+module _ {σ : State} {number : ℕ} {s : List ℕ} {ended : Bool} {out₀ : List ℕ} {b : Place} {c w : ℕ} {out : List ℕ} (so_far : At σ number s ended out₀ b c w out) where
   abbrev before : Phase
   before = Body σ number
+
+  abbrev came : Came before s ended out₀ (phase_of σ b) c w out
+  came = so_far.lines
 
   -- no room
   pub full : length out - w < 65537 → (r : Ran) → r ≡ record { phase = phase_of σ b; consumed = c; written = w; starved = false } → Runs before s ended out₀ r out
@@ -227,7 +247,7 @@ module _ (σ : State) (number : ℕ) (s : List ℕ) (ended : Bool) (out₀ : Lis
   abbrev room' : List ℕ
   room' = room before s ended out₀ (phase_of σ b) c w out came
 
-  module _ (part : List ℕ) (z : BodyStep) (known : Steps (phase_of σ b) left' ended room' part (step_of σ z)) where
+  module _ (part : List ℕ) (z : Step Place) (known : Steps (phase_of σ b) left' ended room' part (step_of σ z)) where
     abbrev new' : List ℕ
     new' = new before s ended out₀ (phase_of σ b) c w out came part
 
@@ -245,7 +265,7 @@ module _ (σ : State) (number : ℕ) (s : List ℕ) (ended : Bool) (out₀ : Lis
       fewer = omega (arith, loop.fewer before s ended out₀ (phase_of σ b) c w out came part (step_of σ z) known d v (phase_of σ q) (ap (step_of σ) f))
 
       pub takes : length part ≡ length room' → At σ number s ended out₀ q (c + d) (w + v) new'
-      takes = loop.takes before s ended out₀ (phase_of σ b) c w out came part (step_of σ z) known d v (phase_of σ q) (ap (step_of σ) f)
+      takes h = record { lines = loop.takes before s ended out₀ (phase_of σ b) c w out came part (step_of σ z) known d v (phase_of σ q) (ap (step_of σ) f) h }
 
       pub keeps : (start : List ℕ) (n : ℕ) → Keeps σ start n z → Kept σ start n q
       keeps start n k = rw f at k
@@ -271,3 +291,6 @@ module _ (σ : State) (number : ℕ) (s : List ℕ) (ended : Bool) (out₀ : Lis
 pub ran : (σ : State) (b : Place) (m : Remembered) → m ≡ remembered_in b.memory → (τ : State) → τ ≡ moved σ (record { at = b.position; remembered = plain m }) → (c w : ℕ) (z : Bool)
     → ◌≡◌ {A = Ran} (record { phase = Body τ b.number; consumed = c; written = w; starved = z }) (record { phase = phase_of σ b; consumed = c; written = w; starved = z })
 ran σ b m f τ e c w z = rw (e, f)
+
+-- for the loop over the body's lines
+pub ruleset body_laws = (loop.room_length, same_new, stops_within, inside, within, fewer)

@@ -1,6 +1,6 @@
 -- Laws of a route's line that is put together from texts: a plain path's text is copied.
-use Rattle.std.specs.Prelude.{Result, Ok, Err, Option, Some}
-use Rattle.std.proofs.Common.{◌≡◌, ℕ, ◌+◌, ◌-◌, ◌*◌, ◌/◌, ◌%◌, ◌^◌, ◌<◌, ◌≤◌, false, eqb, List, [], ◌∷◌, ◌++◌, map, length, get_or, take, drop, sym, refl, ap, ◌∙◌, subst, append_assoc, append-nil, add-one, arith, take-suc, take-add, ne_eqb, leb-true}
+use Rattle.std.specs.Prelude.{Result, Ok, Err, Option, Some, None}
+use Rattle.std.proofs.Common.{◌≡◌, ℕ, ◌+◌, ◌-◌, ◌%◌, ◌<◌, ◌≤◌, false, eqb, List, [], ◌∷◌, ◌++◌, map, length, get_or, take, drop, sym, refl, ap, ◌∙◌, subst, append_assoc, append-nil, add-one, arith, take-suc, take-add, ne_eqb, leb-true}
 use Rattle.output.specs.Output.{Written, front, answer}
 use Rattle.output.specs.declared.PutError.{PutError}
 use Rattle.output.specs.declared.PutError.TheVariants.{TooShort}
@@ -18,7 +18,7 @@ use Rattle.elem.specs.declared.Element.{Element}
 use Rattle.psv.specs.Line.{sequence_text, asn_text, texts_line}
 use Rattle.text_dump.specs.Rules.{origin_asn}
 use Rattle.psv_stream.specs.Printed.{feed}
-use Rattle.psv_stream.specs.Parts.{Spells, IsPlain, copied_text, Copies}
+use Rattle.psv_stream.specs.Parts.{Spells, PlainNumber, PlainDigits, IsPlain, copied_text, Copies}
 use Rattle.psv_stream.proofs.Texts.{Told, told_by, part_put, whole_again}
 
 -- the origin AS is the last of the numbers
@@ -67,10 +67,10 @@ module _ (path : List ℕ) (at last n v : ℕ) (c : Copied path at last) (before
       }
 
 -- the turns of the loop, and its end
-module _ (path : List ℕ) (at last w n : ℕ) (bytes : Bytes path) (c : Copied path at last) (q : w ≡ number (take 8 (drop at path))) (f : n ≡ length (leading (little_endian w))) where
-  pub copied_ends : n ≡ 0 → length path ≡ at + 1 → Spells path last (at - 1)
+module _ (path : List ℕ) (at last w : ℕ) (bytes : Bytes path) (c : Copied path at last) (q : w ≡ number (take 8 (drop at path))) where
+  pub copied_ends : (n : ℕ) → n ≡ length (leading (little_endian w)) → n ≡ 0 → length path ≡ at + 1 → Spells path last (at - 1)
   unfolding separated last_or
-  copied_ends z one =
+  copied_ends n f z one =
       let none : asns_from path at ≡ [] = last_none path at w n bytes q f z one in
       record {
         inside = omega arith;
@@ -79,18 +79,23 @@ module _ (path : List ℕ) (at last w n : ℕ) (bytes : Bytes path) (c : Copied 
         asn = rw none at c.asn;
       }
 
-  module _ (some : n ≡ 0 → ⊥) (few : n ≤ 7) (space : w / 2 ^ (8 * n) % 256 ≡ 32) where
-    pub copied_inside : at + n < length path
-    copied_inside = counted_inside path at w n bytes q f few space
+  module _ (r : Option ℕ) (told : PlainDigits w r) (n : ℕ) (k : r ≡ Some n) where
+    plain : PlainNumber w n
+    plain = subst (PlainDigits w) k told
 
-    pub copied_more : (w % 256 ≡ 48 → ⊥) → Copied path (at + n + 1) at
-    copied_more no_zero = one_more path at last n (first_digits w).value c copied_inside printed (counted_space path at w n bytes q f few space) (counted_found path at w n bytes q f few space some)
+    pub copied_inside : at + n < length path
+    copied_inside = counted_inside path at w n bytes q plain.count plain.few plain.space
+
+    pub copied_more : Copied path (at + n + 1) at
+    copied_more =
+        one_more path at last n (first_digits w).value c copied_inside printed
+        (counted_space path at w n bytes q plain.count plain.few plain.space) (counted_found path at w n bytes q plain.count plain.few plain.space plain.some)
       where
         first : get_or (take n (drop at path)) 0 0 ≡ w % 256
-        first = counted_first path at w n bytes q f few space some
+        first = counted_first path at w n bytes q plain.count plain.few plain.space plain.some
 
         printed : take n (drop at path) ≡ decimal (first_digits w).value
-        printed = digits_printed (first_digits w).value (take n (drop at path)) (counted_digits path at w n bytes q f few space some) (λ e. no_zero (sym first ∙ e))
+        printed = digits_printed (first_digits w).value (take n (drop at path)) (counted_digits path at w n bytes q plain.count plain.few plain.space plain.some) (λ e. plain.no_zero (sym first ∙ e))
 
 -- what is told of a path that is plain
 module _ (path : List ℕ) (p : Option (ℕ × ℕ)) (told : IsPlain path p) (last end : ℕ) (f : p ≡ Some (last, end)) where
@@ -112,10 +117,13 @@ module _ (begin path : List ℕ) (e : Element) (out part : List ℕ) (last end :
   known q f = subst (Told text (take 65536 out) part) f (told_by text (take 65536 out) part r (rw (s.text, s.asn) at told))
 
   pub copied_put : length path ≤ 16384 → (n : ℕ) → r ≡ Ok n → (new : List ℕ) (w : ℕ) → Written feed (part ++ drop 65536 out) n new w
-      → Copies begin path e out new (Ok w)
+      → Copies begin path e out new (Some w)
   copied_put few n f new w v =
       let y = part_put out part room text n (known (Ok n) f) new w v in
       (leb-true (length (asns_of path)) 16384 (sym (many_places path 16384 few)), y.0, y.1)
 
-  pub copied_short : (z : PutError) → r ≡ Err z → Copies begin path e out (part ++ drop 65536 out) (Err TooShort)
+  pub copied_short : (z : PutError) → r ≡ Err z → Copies begin path e out (part ++ drop 65536 out) None
   copied_short TooShort f = whole_again out part room (known (Err TooShort) f).1
+
+-- for the walk over a path
+pub ruleset walk_laws = (copied_starts, copied_ends, copied_inside, copied_more)

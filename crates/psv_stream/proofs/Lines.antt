@@ -72,27 +72,26 @@ module _ (p : Phase) (out new : List ℕ) (w : ℕ) where
   pub path_long : p ≡ Path → Puts (refusal_text 13 0) out new w → TooLong p out new w
   path_long f h = rw f h
 
-  pub header_long : (t : Float) (n size number : ℕ) → p ≡ Header t n size → number ≡ after n → Puts (refusal_text 13 number) out new w → TooLong p out new w
-  header_long t n size number f g h = rw f (rw g at h)
+  pub header_long : (t : Float) (n size : ℕ) → p ≡ Header t n size → Puts (refusal_text 13 (after n)) out new w → TooLong p out new w
+  header_long t n size f h = rw f h
 
-  pub body_long : (σ : State) (n number : ℕ) → p ≡ Body σ n → number ≡ after n → Puts (refusal_text 13 number) out new w → TooLong p out new w
-  body_long σ n number f g h = rw f (rw g at h)
+  pub body_long : (σ : State) (n : ℕ) → p ≡ Body σ n → Puts (refusal_text 13 (after n)) out new w → TooLong p out new w
+  body_long σ n f h = rw f h
 
   module _ (s : List ℕ) (e : ℕ) where
-    pub on_body : (σ : State) (n number : ℕ) → p ≡ Body σ n → is_head p ≡ true → number ≡ after n → Puts (refusal_text 5 number) out new w
-        → Does (acts p (take e s)) s e out new (step.Stops w)
-    on_body σ n number f h g d =
+    pub on_body : (σ : State) (n : ℕ) → p ≡ Body σ n → is_head p ≡ true → Puts (refusal_text 5 (after n)) out new w → Does (acts p (take e s)) s e out new (step.Stops w)
+    on_body σ n f h d =
         let spoils : spoilt (turned σ) 0 ≡ true = rw f at h in
         let five = spoilt_line σ (take e s) 16384 (spoilt_anywhere σ (length (take e s)) 0 ∙ spoils) in
-        refused_does s e out (acts p (take e s)) 5 (after n) (rw f (rw five)) new w (rw g at d)
+        refused_does s e out (acts p (take e s)) 5 (after n) (rw f (rw five)) new w d
 
-module _ (p : Phase) (out new : List ℕ) (r : Step) (s : List ℕ) (e : ℕ) where
+module _ (p : Phase) (out new : List ℕ) (r : Step Phase) (s : List ℕ) (e : ℕ) where
   pub on_path : p ≡ Path → Does (dated (infer_timestamp (take e s))) s e out new r → Does (acts p (take e s)) s e out new r
   on_path f h = rw f h
 
-  pub on_header : (t : Float) (n size number : ℕ) → p ≡ Header t n size → number ≡ after n
-      → Does (scanned t number (take e s) (open_of t (take e s))) s e out new r → Does (acts p (take e s)) s e out new r
-  on_header t n size number f g h = rw f (rw g at h)
+  pub on_header : (t : Float) (n size : ℕ) → p ≡ Header t n size
+      → Does (scanned t (after n) (take e s) (open_of t (take e s))) s e out new r → Does (acts p (take e s)) s e out new r
+  on_header t n size f h = rw f h
 
 module _ (p : Phase) (out : List ℕ) where
   pub body_ends : (σ : State) (n : ℕ) → p ≡ Body σ n → Ends p out out 0
@@ -110,3 +109,10 @@ module _ (p : Phase) (out : List ℕ) where
 -- the loop over the head goes on under a spoilt state
 pub head_body : (p : Phase) (σ : State) (n : ℕ) → p ≡ Body σ n → (τ : State) → τ ≡ turned σ → (r : Bool) → r ≡ spoilt τ 0 → r ≡ is_head p
 head_body p σ n f τ g r h = rw f (h ∙ ap (λ (u : State). spoilt u 0) g)
+
+-- for the functions that go by phase
+pub ruleset end_laws = (path_ends, header_ends, body_ends, stopped_ends)
+
+pub ruleset long_laws = (path_long, header_long, body_long, stopped_long)
+
+pub ruleset on_laws = (on_path, on_header, on_stopped)

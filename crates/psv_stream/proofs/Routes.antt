@@ -1,11 +1,10 @@
 -- A route's line: by the numbers of its path, or put together from texts; and what the lines of the body begin with.
-use Rattle.std.specs.Prelude.{Option, Result, Ok, Err}
+use Rattle.std.specs.Prelude.{Option, Some, None, Result, Ok, Err}
 use Rattle.std.proofs.Common.{◌≡◌, ℕ, ◌+◌, ◌<◌, ◌≤◌, Bool, true, false, not, ◌||◌, ltb, leb, List, ◌++◌, length, take, drop, sym, refl, ap, ◌∙◌, subst, append_assoc, arith, length-append, length-take, take_at, le-ltb, le-leb}
 use lib.Seq.{take-length}
 use borrow.Author.Tests.{lt-leb}
 use Rattle.output.specs.Output.{Written, front, answer, room, overwrite}
 use Rattle.output.specs.declared.PutError.{PutError}
-use Rattle.output.specs.declared.PutError.TheVariants.{TooShort as NoRoom}
 use Rattle.output.proofs.Output.{all_written, length_overwrite}
 use Rattle.columns.specs.Columns.{are_rising}
 use Rattle.seconds.specs.Seconds.{is_timestamp}
@@ -36,8 +35,8 @@ use Rattle.text_dump.proofs.StateLaws.{stored_plain, first, second}
 use Rattle.psv_stream.specs.Parts.{PutElement, element_for, PutRoute, PutCopy, copied_text, Copies, front_of, Fine, Begins, kept_len}
 use Rattle.psv_stream.specs.Refusal.{of_asns, of_element}
 use Rattle.psv_stream.specs.declared.Refusal.{Refusal}
-use Rattle.std.specs.Result.{IsErrAnd}
-use Rattle.psv_stream.specs.declared.Refusal.TheVariants.{TooFewPlaces as FewPlaces, SpoiltElement, ElementTooLong}
+use Rattle.std.specs.Result.{IsErrAnd, result_unwrap_or}
+use Rattle.psv_stream.specs.declared.Refusal.TheVariants.{SpoiltElement, ElementTooLong}
 use Rattle.psv_stream.proofs.Texts.{Told, told_by, text_taken, spoilt_taken}
 
 -- by the numbers
@@ -128,26 +127,26 @@ module _ (σ : State) (p : NetworkPrefix) (e : RouteEntry) where
         (copied_line element' (asns_of path) begin (sequence_text (asns_of path)) (asn_text (origin_asn (asns_of path))) (asns_of path) starts refl (sym (take-length (asns_of path))) refl)
 
   pub copied : (begin path : List ℕ) → (0 < length begin → begin ≡ front_of σ ++ between_text p) → (length begin ≡ 0 → ⊥) → (o : Option Asn) (y : Element) → y ≡ element_of σ p e 0 o
-      → Fine σ (remembered.Valid p) → (out new : List ℕ) (r : Result ℕ PutError) → Copies begin path y out new r → PutCopy σ p e (asns_of path) out new r
+      → Fine σ (remembered.Valid p) → (out new : List ℕ) (r : Option ℕ) → Copies begin path y out new r → PutCopy σ p e (asns_of path) out new r
   copied begin path starts some o y made fine out new = go
     where
       text : copied_text begin path y ≡ psv_text (element_for σ p e (asns_of path)) (asns_of path)
       text = copied_text_lem begin path (starts (omega (arith, some))) o y made
 
-      go : (r : Result ℕ PutError) → Copies begin path y out new r → PutCopy σ p e (asns_of path) out new r
-      go (Ok w) h =
+      go : (r : Option ℕ) → Copies begin path y out new r → PutCopy σ p e (asns_of path) out new r
+      go (Some w) h =
           let short : leb (length (psv_text (element_for σ p e (asns_of path)) (asns_of path))) 65536 ≡ true = rw text at (le-leb (length (copied_text begin path y)) 65536 h.1) in
           (λ n u. rw (le-leb (length (asns_of path)) 16384 h.0, fine_element σ p e (asns_of path) fine, short), rw text at h.2)
-      go (Err NoRoom) h = h
+      go None h = h
 
   -- the one or the other
-  module _ (path line : List ℕ) (here : path ≡ path_of e line) (out new : List ℕ) (c : Result ℕ PutError) (known : PutCopy σ p e (asns_of path) out new c) where
-    pub by_copy : (w : ℕ) → c ≡ Ok w → PutRoute σ p e (asns_of (path_of e line)) out new (Ok w)
-    by_copy w f = let h : PutCopy σ p e (asns_of path) out new (Ok w) = rw f at known in rw (← here) h
+  module _ (path line : List ℕ) (here : path ≡ path_of e line) (out new : List ℕ) (c : Option ℕ) (known : PutCopy σ p e (asns_of path) out new c) where
+    pub by_copy : (w : ℕ) → c ≡ Some w → PutRoute σ p e (asns_of (path_of e line)) out new (Ok w)
+    by_copy w f = let h : PutCopy σ p e (asns_of path) out new (Some w) = rw f at known in rw (← here) h
 
-    pub by_numbers : (z : PutError) → c ≡ Err z → (newer : List ℕ) (r : Result ℕ Refusal) → PutRoute σ p e (asns_of path) new newer r
+    pub by_numbers : c ≡ None → (newer : List ℕ) (r : Result ℕ Refusal) → PutRoute σ p e (asns_of path) new newer r
         → PutRoute σ p e (asns_of (path_of e line)) out newer r
-    by_numbers NoRoom f newer r d = let h : PutCopy σ p e (asns_of path) out new (Err NoRoom) = rw f at known in rw (← here, ← h) d
+    by_numbers f newer r d = let h : PutCopy σ p e (asns_of path) out new None = rw f at known in rw (← here, ← h) d
 
 -- what lines begin with
 module _ (start : List ℕ) (n : ℕ) (m : Remembered) (k : ℕ) where
@@ -206,10 +205,7 @@ text_keeps f start n m k b (prefix.Valid p) l g = none_begun start n m k l f b
 
 -- the front printed
 module _ (σ : State) (m : Remembered) (out : List ℕ) where
-  pub no_front : Begins (front_of σ) out 0 m 0
-  no_front = record { front_inside = omega arith; is_front = λ h. absurd (omega arith); inside = omega arith; is_begin = λ q e h. absurd (omega arith) }
-
-  pub front_put : (r : Result ℕ PutError) (new : List ℕ) → (r ≡ answer (front_of σ) out) × (new ≡ front (front_of σ) out) → (n : ℕ) → r ≡ Ok n → Begins (front_of σ) new n m 0
+  front_put : (r : Result ℕ PutError) (new : List ℕ) → (r ≡ answer (front_of σ) out) × (new ≡ front (front_of σ) out) → (n : ℕ) → r ≡ Ok n → Begins (front_of σ) new n m 0
   front_put r new told n e =
       let z : Told (front_of σ) out new (Ok n) = rw e at (told_by (front_of σ) out new r told) in
       record {
@@ -218,3 +214,9 @@ module _ (σ : State) (m : Remembered) (out : List ℕ) where
         inside = omega arith;
         is_begin = λ q f i. absurd (omega arith);
       }
+
+  pub front_or : (r : Result ℕ PutError) (new : List ℕ) → (r ≡ answer (front_of σ) out) × (new ≡ front (front_of σ) out) → (n : ℕ) → n ≡ result_unwrap_or r 0
+      → Begins (front_of σ) new n m 0
+  front_or (Ok k) new told n e = front_put (Ok k) new told n (ap Ok (sym e))
+  front_or (Err z) new told n e =
+      rw e (record { front_inside = omega arith; is_front = λ h. absurd (omega arith); inside = omega arith; is_begin = λ q f h. absurd (omega arith) })

@@ -28,20 +28,9 @@ module _ (p₀ : Phase) (s : List ℕ) (ended : Bool) (out₀ : List ℕ) (p : P
   pub runs : (b : Bool) → (b ≡ true → Starved (drop c s) (header_bytes p) ended) → (b ≡ false → (p ≡ Stopped) ⊎ (length out₀ - w < 65537)) → Runs p₀ s ended out₀ (here b) out
   runs b input room = record { consumed = came.consumed; written = came.written; prints = came.prints; kept = came.kept; wants_input = input; wants_room = room }
 
-  heads : (b : Bool) → (b ≡ true → Starved (drop c s) (header_bytes p) ended) → (b ≡ false → is_head p ≡ true → length out₀ - w < 65537) → Heads p₀ s ended out₀ (here b) out
-  heads b input room = record { came = came; wants_input = input; wants_room = room }
-
   -- there is no room for another line
   pub full : length out - w < 65537 → Runs p₀ s ended out₀ (here false) out
   full h = runs false (λ e. absurd (false≢true e)) (λ e. inr (omega (arith, came.same)))
-
-  pub full_head : length out - w < 65537 → Heads p₀ s ended out₀ (here false) out
-  full_head h = heads false (λ e. absurd (false≢true e)) (λ e f. omega (arith, came.same))
-
-  -- the head is over, or it is not
-  pub at_body : (b : Bool) → b ≡ is_head p → not b ≡ true → Heads p₀ s ended out₀ (here false) out
-  at_body true k f = absurd (false≢true f)
-  at_body false k f = heads false (λ e. absurd (false≢true e)) (λ e g. absurd (false≢true (k ∙ g)))
 
   -- the next line is taken from what is left of the input, and written to what is left of the output
   abbrev pub left : List ℕ
@@ -81,7 +70,7 @@ module _ (p₀ : Phase) (s : List ℕ) (ended : Bool) (out₀ : List ℕ) (p : P
     pub same_new : length part ≡ length room → length new ≡ length out₀
     same_new h = rw new_is (rw length-append (omega (arith, size, room_length, came.written, came.same)))
 
-    module _ (r : Step) (known : Steps p left ended room part r) where
+    module _ (r : Step Phase) (known : Steps p left ended room part r) where
       steps : Steps p (drop c s) ended (drop w out) part r
       steps = rw (left_is, room_is) at known
 
@@ -154,15 +143,40 @@ module _ (p₀ : Phase) (s : List ℕ) (ended : Bool) (out₀ : List ℕ) (p : P
           wants_room = λ e. ⊎_elim (λ f. inl f) (λ h. inr (omega (arith, h, length-drop w out, came.same))) (known.wants_room e);
         }
 
--- the loop over the head
-module _ (p₀ : Phase) (s : List ℕ) (ended : Bool) (out₀ : List ℕ) (p : Phase) (c w : ℕ) (out : List ℕ) (came : Came p₀ s ended out₀ p c w out) where
-  module _ (part : List ℕ) (r : Step) (known : Steps p (left p₀ s ended out₀ p c w out came) ended (room p₀ s ended out₀ p c w out came) part r) where
-    pub head_starves : r ≡ step.Starved → Heads p₀ s ended out₀ (record { phase = p; consumed = c; written = w; starved = true }) (new p₀ s ended out₀ p c w out came part)
-    head_starves f = heads p₀ s ended out₀ p c w (new p₀ s ended out₀ p c w out came part) (starves p₀ s ended out₀ p c w out came part r known f) true (λ e. starved p₀ s ended out₀ p c w out came part r known f) (λ e. absurd (false≢true (sym e)))
+-- the loop over the head: it goes on, with what it has so far
+module _ (p₀ : Phase) (s : List ℕ) (ended : Bool) (out₀ : List ℕ) (r : Ran) (out : List ℕ) (came : Came p₀ s ended out₀ r.phase r.consumed r.written out) (going : r.starved ≡ false) where
+  no_input : {A : Type 0} → r.starved ≡ true → A
+  no_input e = absurd (false≢true (sym going ∙ e))
 
-    pub head_stops : (v : ℕ) → r ≡ step.Stops v → length part ≡ length (room p₀ s ended out₀ p c w out came)
-        → Heads p₀ s ended out₀ (record { phase = Stopped; consumed = c; written = w + v; starved = false }) (new p₀ s ended out₀ p c w out came part)
-    head_stops v f h = heads p₀ s ended out₀ Stopped c (w + v) (new p₀ s ended out₀ p c w out came part) (stops p₀ s ended out₀ p c w out came part r known v f h) false (λ e. absurd (false≢true e)) (λ e g. absurd (false≢true g))
+  -- there is no room for another line
+  pub full_head : length out - r.written < 65537 → Heads p₀ s ended out₀ r out
+  full_head h = record { came = came; wants_input = λ e. no_input e; wants_room = λ e f. omega (arith, came.same) }
+
+  -- the head is over
+  pub at_body : (b : Bool) → b ≡ is_head r.phase → not b ≡ true → Heads p₀ s ended out₀ r out
+  at_body true k f = absurd (false≢true f)
+  at_body false k f = record { came = came; wants_input = λ e. no_input e; wants_room = λ e g. absurd (false≢true (k ∙ g)) }
+
+  module _ (part : List ℕ) (z : Step Phase) (known : Steps r.phase (left p₀ s ended out₀ r.phase r.consumed r.written out came) ended (room p₀ s ended out₀ r.phase r.consumed r.written out came) part z) where
+    abbrev after : List ℕ
+    after = new p₀ s ended out₀ r.phase r.consumed r.written out came part
+
+    pub head_starves : z ≡ step.Starved → Heads p₀ s ended out₀ (record { phase = r.phase; consumed = r.consumed; written = r.written; starved = true }) after
+    head_starves f =
+        record {
+          came = starves p₀ s ended out₀ r.phase r.consumed r.written out came part z known f;
+          wants_input = λ e. starved p₀ s ended out₀ r.phase r.consumed r.written out came part z known f;
+          wants_room = λ e. absurd (false≢true (sym e));
+        }
+
+    pub head_stops : (v : ℕ) → z ≡ step.Stops v → length part ≡ length (room p₀ s ended out₀ r.phase r.consumed r.written out came)
+        → Heads p₀ s ended out₀ (record { phase = Stopped; consumed = r.consumed; written = r.written + v; starved = r.starved }) after
+    head_stops v f h =
+        record {
+          came = stops p₀ s ended out₀ r.phase r.consumed r.written out came part z known v f h;
+          wants_input = λ e. no_input e;
+          wants_room = λ e g. absurd (false≢true g);
+        }
 
 -- the head is what a run is, unless the body has begun
 module _ (p₀ : Phase) (s : List ℕ) (ended : Bool) (out₀ : List ℕ) (h : Ran) (out : List ℕ) (known : Heads p₀ s ended out₀ h out) (b : Bool) (told : b ≡ is_head h.phase) where
@@ -196,3 +210,6 @@ module _ (p₀ : Phase) (s : List ℕ) (ended : Bool) (out₀ : List ℕ) (h : R
 
     pub sum_within : h.written + r.written ≤ length out₀
     sum_within = runs_on.written
+
+-- for the loop over the head
+pub ruleset head_laws = (in_head, room_length, same_new, inside, within, stops_within)

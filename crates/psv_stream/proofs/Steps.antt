@@ -60,7 +60,7 @@ module _ (p : Phase) (s : List ℕ) (ended : Bool) (out new : List ℕ) where
         let k : header_bytes q ≤ length (drop c s) = rw length-drop (omega (arith, line.1)) in
         rw (stage_kept q (drop c s) later k, drop-append-le (header_bytes q) (drop c s) later k, drop-drop, h)
 
-    does_steps : (r : Step) → Does (acts p (take e s)) s e out new r → Steps p s ended out new r
+    does_steps : (r : Step Phase) → Does (acts p (take e s)) s e out new r → Steps p s ended out new r
     does_steps (step.Took c w q) d = (
       omega (arith, line.0, d.2),
       omega (arith, line.1, d.2),
@@ -135,7 +135,7 @@ module _ (p : Phase) (s : List ℕ) (ended : Bool) (at : ℕ) (here : at ≡ hea
   starved_steps g out = (refl, rw g at here_known)
 
   module _ (out new : List ℕ) where
-    pub line_steps : (r : Step) (e : ℕ) → f ≡ front.Line e → Does (acts p (take e s)) s e out new r → Steps p s ended out new r
+    pub line_steps : (r : Step Phase) (e : ℕ) → f ≡ front.Line e → Does (acts p (take e s)) s e out new r → Steps p s ended out new r
     line_steps r e g = does_steps p s ended out new e (rw g at here_known) r
 
     pub long_steps : (w : ℕ) → f ≡ front.TooLong → TooLong p out new w → Steps p s ended out new (step.Stops w)
@@ -143,3 +143,6 @@ module _ (p : Phase) (s : List ℕ) (ended : Bool) (at : ℕ) (here : at ≡ hea
 
     pub end_steps : (w : ℕ) → f ≡ front.Nothing → Ends p out new w → Steps p s ended out new (step.Stops w)
     end_steps w g = nothing_steps p s ended out new (rw g at here_known) w
+
+-- for a line of the head
+pub ruleset line_laws = (line_inside, starved_steps, line_steps)

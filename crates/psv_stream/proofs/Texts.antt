@@ -5,10 +5,13 @@ use lib.Seq.{drop-append-le}
 use Rattle.scan.specs.Ascii.{ascii}
 use Rattle.decimal_display.specs.Printed.{decimal}
 use Rattle.output.specs.Output.{Written, front, answer}
+use Rattle.output.specs.Writing.{Writes}
+use Rattle.output.specs.declared.Writer.{Writer}
 use Rattle.output.specs.declared.PutError.{PutError}
 use Rattle.output.specs.declared.PutError.TheVariants.{TooShort as NoRoom}
 use Rattle.decimal_display.proofs.Printed.{digits_most}
 use Rattle.output.proofs.Output.{then, all_written, overwrite_all, room_all}
+use Rattle.output.proofs.Writing.{then as writes_then}
 use Rattle.elem.specs.Element.{spoilt}
 use Rattle.elem.specs.declared.Element.{Element}
 use Rattle.aspath_display.specs.Display.{separated}
@@ -34,6 +37,10 @@ module _ (t out new : List ℕ) (w : ℕ) where
   pub put_behind : Puts t out new w → drop w new ≡ drop w out
   put_behind p = rw p.2 (drop_at t (drop w out) w (sym p.0))
 
+-- what a writer did, of the lent list afterwards
+pub written_by : {t x : List ℕ} {w₀ w : Writer} → Writes t w₀ w → x ≡ w.out.now → Written t w₀.out.now w₀.at x w.at
+written_by c e = rw e c.written
+
 pub puts_none : (out : List ℕ) → Puts [] out out 0
 puts_none out = (refl, omega arith, refl)
 
@@ -44,18 +51,19 @@ short n f = digits_most 19 n (omega (arith, f.fits))
 refusal_is : (d e : List ℕ) → ascii "refused=" ++ d ++ (feed ++ ascii "line=") ++ e ++ feed ≡ ascii "refused=" ++ d ++ feed ++ ascii "line=" ++ e ++ feed
 refusal_is d e = ap (λ (x : List ℕ). x ++ e ++ feed) (sym (append_assoc (ascii "refused=" ++ d) feed (ascii "line=")))
 
-module _ (number line : ℕ) (out : List ℕ) where
+module _ (number line : ℕ) where
   refusal_short : Fits w64 number → Fits w64 line → length (refusal_text number line) ≤ 55
   unfolding refusal_text
   refusal_short f g = simp length-append (omega (arith, short number f, short line g))
 
-  pub refuses : (o₁ o₂ o₃ o₄ new : List ℕ) (a b c d w : ℕ) → 65537 ≤ length out → Fits w64 number → Fits w64 line
-      → Written (ascii "refused=") out 0 o₁ a → Written (decimal number) o₁ a o₂ b → Written (feed ++ ascii "line=") o₂ b o₃ c → Written (decimal line) o₃ c o₄ d
-      → Written feed o₄ d new w → Puts (refusal_text number line) out new w
+  pub refuses : {x : List ℕ} {w₀ w₁ w₂ w₃ w₄ w : Writer} → w₀.at ≡ 0 → 65537 ≤ length w₀.out.now → Fits w64 number → Fits w64 line
+      → Writes (ascii "refused=") w₀ w₁ → Writes (decimal number) w₁ w₂ → Writes (feed ++ ascii "line=") w₂ w₃ → Writes (decimal line) w₃ w₄ → Writes feed w₄ w
+      → x ≡ w.out.now → Puts (refusal_text number line) w₀.out.now x w.at
   unfolding refusal_text
-  refuses o₁ o₂ o₃ o₄ new a b c d w h f g w₁ w₂ w₃ w₄ w₅ =
-      let v : Written (refusal_text number line) out 0 new w = rw (← refusal_is (decimal number) (decimal line)) (then (then (then (then w₁ w₂) w₃) w₄) w₅) in
-      puts (refusal_text number line) out new w v (omega (arith, refusal_short f g))
+  refuses {x} {w₀} {w = w} z h f g a b c d e k =
+      let v : Writes (refusal_text number line) w₀ w = rw (← refusal_is (decimal number) (decimal line)) (writes_then (writes_then (writes_then (writes_then a b) c) d) e) in
+      let u : Written (refusal_text number line) w₀.out.now w₀.at x w.at = written_by v k in
+      puts (refusal_text number line) w₀.out.now x w.at (rw z at u) (omega (arith, refusal_short f g))
 
 -- a text that a call measured and put, and a line feed behind it
 front_written : (t out : List ℕ) → length t ≤ length out → Written t out 0 (t ++ drop (length t) out) (length t)

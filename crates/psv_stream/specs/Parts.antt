@@ -1,8 +1,8 @@
 -- For the parts of a run: what the line comes to that comes next, and what is written of it.
-use Rattle.std.specs.Prelude.{◌≡◌, ℕ, ◌+◌, ◌-◌, ◌<◌, ◌≤◌, Bool, true, false, cond, List, [], ◌++◌, length, take, drop, nat_le, Result, Ok, Err, Option, Some, None}
-use Rattle.output.specs.declared.PutError.{PutError}
-use Rattle.output.specs.declared.PutError.TheVariants.{TooShort as NoRoom}
+use Rattle.std.specs.Prelude.{◌≡◌, ℕ, ◌+◌, ◌-◌, ◌*◌, ◌/◌, ◌%◌, ◌^◌, ◌<◌, ◌≤◌, Bool, true, false, cond, List, [], ◌++◌, length, take, drop, nat_le, Result, Ok, Err, Option, Some, None}
 use Rattle.input.specs.Input.{Starved}
+use Rattle.word.specs.Word.{little_endian}
+use Rattle.decimal.specs.Decimal.{leading}
 use Rattle.network.specs.declared.NetworkPrefix.{NetworkPrefix}
 use Rattle.elem.specs.Element.{spoilt as spoiltElement}
 use Rattle.elem.specs.declared.Element.{Element}
@@ -31,8 +31,6 @@ use Rattle.psv_stream.specs.declared.Ran.{Ran}
 use Rattle.psv_stream.specs.Refusal.{number}
 use Rattle.psv_stream.specs.declared.Refusal.{Refusal}
 use Rattle.psv_stream.specs.declared.Place.{Place}
-use Rattle.psv_stream.specs.declared.BodyStep.{BodyStep}
-use Rattle.psv_stream.specs.declared.BodyStep.TheVariants as bodyStep
 use Rattle.psv_stream.specs.Run.{header_bytes, stage_of, Prints}
 
 -- what a line comes to that is not too long; of a header line, the text with all before it
@@ -79,6 +77,18 @@ pub record Spells (path : List ℕ) (last end : ℕ) : Type 0 where
   pub text : take end path ≡ sequence_text (asns_of path)
   pub asn : take (end - last) (drop last path) ≡ asn_text (origin_asn (asns_of path))
 
+-- a word begins with n digits, which are a number of a plain path
+pub record PlainNumber (w n : ℕ) : Type 0 where
+  pub count : n ≡ length (leading (little_endian w))
+  pub some : n ≡ 0 → ⊥
+  pub few : n ≤ 7
+  pub space : w / 2 ^ (8 * n) % 256 ≡ 32
+  pub no_zero : w % 256 ≡ 48 → ⊥
+
+abbrev pub PlainDigits : ℕ → Option ℕ → Type 0
+PlainDigits w (Some n) = PlainNumber w n
+PlainDigits w None = Unit {0}
+
 -- what is told of a plain path; of others nothing is
 abbrev pub IsPlain : List ℕ → Option (ℕ × ℕ) → Type 0
 IsPlain path (Some (last, end)) = Spells path last end
@@ -89,19 +99,19 @@ abbrev pub copied_text : List ℕ → List ℕ → Element → List ℕ
 copied_text begin path e = texts_line begin (sequence_text (asns_of path)) (asn_text (origin_asn (asns_of path))) e
 
 -- a route's line put together from texts: begin, the path as its numbers print, the last of them, and the attributes of e; where it is not, nothing is written
-abbrev pub Copies : List ℕ → List ℕ → Element → List ℕ → List ℕ → Result ℕ PutError → Type 0
-Copies begin path e out new (Ok w) =
+abbrev pub Copies : List ℕ → List ℕ → Element → List ℕ → List ℕ → Option ℕ → Type 0
+Copies begin path e out new (Some w) =
     (length (asns_of path) ≤ 16384) × (length (copied_text begin path e) ≤ 65536) × Puts (copied_text begin path e ++ feed) out new w
-Copies begin path e out new (Err NoRoom) = new ≡ out
+Copies begin path e out new None = new ≡ out
 
 -- a line that ends at e does what z says
-abbrev pub Does : P.Step → List ℕ → ℕ → List ℕ → List ℕ → Step → Type 0
+abbrev pub Does : P.Step → List ℕ → ℕ → List ℕ → List ℕ → Step Phase → Type 0
 Does z s e out new (step.Took c w q) = Puts z.0 out new w × (z.1 ≡ stage_of q (drop c s)) × (c + header_bytes q ≡ e)
 Does z s e out new (step.Stops w) = Puts z.0 out new w × (z.1 ≡ stopped)
 Does z s e out new step.Starved = ⊥
 
 -- whatever comes later
-abbrev pub Steps : Phase → List ℕ → Bool → List ℕ → List ℕ → Step → Type 0
+abbrev pub Steps : Phase → List ℕ → Bool → List ℕ → List ℕ → Step Phase → Type 0
 Steps p s ended out new (step.Took c w q) =
     (header_bytes p < c + header_bytes q) × (c + header_bytes q ≤ length s) × (w ≤ length out) × (drop w new ≡ drop w out) × Prints ended p s (take w new) q (drop c s)
 Steps p s ended out new (step.Stops w) = (w ≤ length out) × (drop w new ≡ drop w out) × Prints ended p s (take w new) Stopped []
@@ -140,9 +150,9 @@ PutRoute σ p e asns out new (Ok w) = ((n : ℕ) (u : State) → routed σ p e a
 PutRoute σ p e asns out new (Err k) = ((n : ℕ) (u : State) → routed σ p e asns n u ≡ P.refuse (number k) n) × (new ≡ out)
 
 -- that line written, or nothing
-abbrev pub PutCopy : State → NetworkPrefix → RouteEntry → List ℕ → List ℕ → List ℕ → Result ℕ PutError → Type 0
-PutCopy σ p e asns out new (Ok w) = PutRoute σ p e asns out new (Ok w)
-PutCopy σ p e asns out new (Err NoRoom) = new ≡ out
+abbrev pub PutCopy : State → NetworkPrefix → RouteEntry → List ℕ → List ℕ → List ℕ → Option ℕ → Type 0
+PutCopy σ p e asns out new (Some w) = PutRoute σ p e asns out new (Ok w)
+PutCopy σ p e asns out new None = new ≡ out
 
 -- What the lines of the body begin with.
 
@@ -172,10 +182,10 @@ state_of σ b = moved σ (record { at = b.position; remembered = plain (remember
 abbrev pub phase_of : State → Place → Phase
 phase_of σ b = Body (state_of σ b) b.number
 
-abbrev pub step_of : State → BodyStep → Step
-step_of σ (bodyStep.Took c w b) = step.Took c w (phase_of σ b)
-step_of σ (bodyStep.Stops w) = step.Stops w
-step_of σ bodyStep.Starved = step.Starved
+abbrev pub step_of : State → Step Place → Step Phase
+step_of σ (step.Took c w b) = step.Took c w (phase_of σ b)
+step_of σ (step.Stops w) = step.Stops w
+step_of σ step.Starved = step.Starved
 
 -- a state that remembers m is not spoilt where a line starts
 abbrev pub Fine : State → Remembered → Type 0
@@ -187,11 +197,11 @@ pub record Kept (σ : State) (start : List ℕ) (n : ℕ) (b : Place) : Type 0 w
   pub begins : Begins (front_of σ) start n (remembered_in b.memory) b.start_len
 
 -- and behind it, if others come
-abbrev pub Keeps : State → List ℕ → ℕ → BodyStep → Type 0
-Keeps σ start n (bodyStep.Took c w b) = Kept σ start n b
-Keeps σ start n (bodyStep.Stops w) = Unit {0}
-Keeps σ start n bodyStep.Starved = Unit {0}
+abbrev pub Keeps : State → List ℕ → ℕ → Step Place → Type 0
+Keeps σ start n (step.Took c w b) = Kept σ start n b
+Keeps σ start n (step.Stops w) = Unit {0}
+Keeps σ start n step.Starved = Unit {0}
 
 -- what a line does that is not too long
-abbrev pub BodyDoes : State → Place → List ℕ → List ℕ → List ℕ → BodyStep → Type 0
+abbrev pub BodyDoes : State → Place → List ℕ → List ℕ → List ℕ → Step Place → Type 0
 BodyDoes σ b l out new r = (s : List ℕ) → Does (acts (phase_of σ b) l) s (length l) out new (step_of σ r)

@@ -14,13 +14,13 @@ ghost use Rattle.text_dump.specs.Open.{open_of};
 ghost use Rattle.psv_stream.specs.Printed.{feed, refusal_text, dated, scanned};
 ghost use Rattle.psv_stream.specs.Refusal.{number, of_asns, of_element};
 ghost use Rattle.psv_stream.specs.Run.{header_bytes, Runs};
-ghost use Rattle.psv_stream.specs.Parts.{acts, is_head, front_of, Puts, PutElement, IsPlain, Copies, PutRoute, PutCopy, Fine, Begins, kept_len, Kept, BodyDoes, Keeps, phase_of, step_of, Ends, TooLong, Does, Steps, Heads};
+ghost use Rattle.psv_stream.specs.Parts.{acts, is_head, front_of, Puts, PutElement, PlainDigits, IsPlain, Copies, PutRoute, PutCopy, Fine, Begins, kept_len, Kept, BodyDoes, Keeps, phase_of, step_of, Ends, TooLong, Does, Steps, Heads};
 ghost use Rattle.psv_stream.specs.declared.Phase.TheVariants as phase;
 
 use elem::Element;
 use input::Front;
 use network::NetworkPrefix;
-use output::PutError;
+use output::Writer;
 use packed::Packed;
 use path_text::AsnsError;
 use psv::ElementError;
@@ -28,7 +28,7 @@ use text_dump::{OpenError, State};
 use text_dump_line::{Line, PrefixText, RouteEntry};
 use timestamp::InferError;
 
-// What is to come.
+// Where the program is in its input.
 #[derive(Clone, Copy)]
 pub enum Phase {
     // The path line.
@@ -97,10 +97,12 @@ impl From<ElementError> for Refusal {
     }
 }
 
-// What a line comes to: how many bytes are consumed, how many are written, and the new phase; or the last bytes that are written.
+// What a line comes to: how many bytes are consumed, how many are written, and where the next line
+// is taken from (a Phase in the head, a Place in the body); or the last bytes that are written. The
+// numbers come first, so that each stands at the same place in every variant.
 #[derive(Clone, Copy)]
-enum Step {
-    Took(usize, usize, Phase),
+enum Step<P> {
+    Took(usize, usize, P),
     Stops(usize),
     Starved,
 }
@@ -109,14 +111,17 @@ fn refuse(why: Refusal, line: u64, out: &mut [u8]) -> usize
     requires { 65537 ≤ length out.old }
     ensures { Puts (refusal_text (number why) line) out.old out.new result }
 {
-    let a = output::write_bytes(b"refused=", out, 0);
-    let b = decimal_display::write_u64(why.number(), out, a);
-    let c = output::write_bytes(b"\nline=", out, b);
-    let d = decimal_display::write_u64(line, out, c);
-    output::write_byte(b'\n', out, d)
+    let mut w = Writer { out, at: 0 };
+    w.bytes(b"refused=");
+    decimal_display::write_u64(why.number(), &mut w);
+    w.bytes(b"\nline=");
+    decimal_display::write_u64(line, &mut w);
+    w.byte(b'\n');
+    w.at
 }
 
 // What is printed at the input's end.
+#[tactic(auto, using(crate::proofs::Lines::end_laws))]
 fn end(phase: Phase, out: &mut [u8]) -> usize
     requires { 65537 ≤ length out.old }
     ensures { Ends phase out.old out.new result }
@@ -129,23 +134,20 @@ fn end(phase: Phase, out: &mut [u8]) -> usize
     }
 }
 
+#[tactic(auto, using(crate::proofs::Lines::long_laws))]
 fn too_long(phase: Phase, out: &mut [u8]) -> usize
     requires { 65537 ≤ length out.old }
     ensures { TooLong phase out.old out.new result }
 {
     match phase {
         Phase::Path => refuse(Refusal::LineTooLong, 0, out),
-        Phase::Header(_, n, _) => refuse(
-            Refusal::LineTooLong,
-            std::num::wrapping_add_u64(n, 1),
-            out,
-        ),
-        Phase::Body(_, n) => refuse(Refusal::LineTooLong, std::num::wrapping_add_u64(n, 1), out),
+        Phase::Header(_, n, _) => refuse(Refusal::LineTooLong, n.wrapping_add(1), out),
+        Phase::Body(_, n) => refuse(Refusal::LineTooLong, n.wrapping_add(1), out),
         Phase::Stopped => 0,
     }
 }
 
-fn path_line(input: &[u8], end: usize, out: &mut [u8]) -> Step
+fn path_line(input: &[u8], end: usize, out: &mut [u8]) -> Step<Phase>
     requires in_bounds { 65537 ≤ length out.old }
     requires end_in_bounds { end ≤ length input.now }
     ensures { Does (dated (infer_timestamp (take end input.now))) input.now end out.old out.new result }
@@ -163,17 +165,18 @@ fn put_header(out: &mut [u8]) -> usize
     let Ok(n) = psv::get_psv_header(out) else {
         return 0;
     };
-    output::write_byte(b'\n', out, n)
+    let mut w = Writer { out, at: n };
+    w.byte(b'\n');
+    w.at
 }
 
-// The listing's lines up to the end, so many, are opened.
-fn header_line(t: f64, number: u64, input: &[u8], end: usize, out: &mut [u8]) -> Step
+// Tries to open input[..end], the first lines of the listing, as many as `number` says.
+fn header_line(t: f64, number: u64, input: &[u8], end: usize, out: &mut [u8]) -> Step<Phase>
     requires in_bounds { 65537 ≤ length out.old }
     requires end_in_bounds { end ≤ length input.now }
     ensures { Does (scanned t number (take end input.now) (open_of t (take end input.now))) input.now end out.old out.new result }
 {
-    let opened = State::open(&input[..end], t);
-    match opened {
+    match State::open(&input[..end], t) {
         Ok(state) => Step::Took(end, put_header(out), Phase::Body(state, number)),
         Err(OpenError::Unreadable(line)) => Step::Stops(refuse(
             Refusal::UnreadableHeader,
@@ -192,22 +195,21 @@ fn header_line(t: f64, number: u64, input: &[u8], end: usize, out: &mut [u8]) ->
 }
 
 // Is the next line taken by the loop over the head? It is until the table is open; under a spoilt state too, where a line is only refused.
+#[tactic(auto, using(crate::proofs::Lines::head_body))]
 fn is_head(phase: Phase) -> bool
     ensures { result ≡ is_head phase }
 {
     match phase {
         Phase::Path => true,
         Phase::Header(_, _, _) => true,
-        Phase::Body(state, _) => {
-            let turned = state.turn();
-            turned.is_spoilt(0)
-        }
+        Phase::Body(state, _) => state.turn().is_spoilt(0),
         Phase::Stopped => false,
     }
 }
 
 // A line that ends there, and is not too long.
-fn on_line(phase: Phase, input: &[u8], end: usize, out: &mut [u8]) -> Step
+#[tactic(auto, using(crate::proofs::Lines::on_laws))]
+fn on_line(phase: Phase, input: &[u8], end: usize, out: &mut [u8]) -> Step<Phase>
     requires in_bounds { 65537 ≤ length out.old }
     requires end_in_bounds { end ≤ length input.now }
     requires phase_value { is_head phase ≡ true }
@@ -216,14 +218,10 @@ fn on_line(phase: Phase, input: &[u8], end: usize, out: &mut [u8]) -> Step
     match phase {
         Phase::Path => path_line(input, end, out),
         Phase::Header(t, n, _) => {
-            let number = std::num::wrapping_add_u64(n, 1);
+            let number = n.wrapping_add(1);
             header_line(t, number, input, end, out)
         }
-        Phase::Body(_, n) => Step::Stops(refuse(
-            Refusal::SpoiltState,
-            std::num::wrapping_add_u64(n, 1),
-            out,
-        )),
+        Phase::Body(_, n) => Step::Stops(refuse(Refusal::SpoiltState, n.wrapping_add(1), out)),
         Phase::Stopped => Step::Stops(0),
     }
 }
@@ -240,13 +238,13 @@ fn header_bytes(phase: Phase) -> usize
     }
 }
 
-fn take_line(phase: Phase, input: &[u8], ended: bool, out: &mut [u8]) -> Step
+#[tactic(auto, using(crate::proofs::Steps::line_laws))]
+fn take_line(phase: Phase, input: &[u8], ended: bool, out: &mut [u8]) -> Step<Phase>
     requires in_bounds { 65537 ≤ length out.old }
     requires phase_value { is_head phase ≡ true }
     ensures { Steps phase input.now ended out.old out.new result }
 {
-    let front = input::line_at(input, header_bytes(phase), ended);
-    match front {
+    match input::line_at(input, header_bytes(phase), ended) {
         Front::Starved => Step::Starved,
         Front::Nothing => Step::Stops(end(phase, out)),
         Front::TooLong => Step::Stops(too_long(phase, out)),
@@ -265,53 +263,49 @@ pub struct Ran {
 }
 
 // Takes lines of the head as long as there is a whole one, and room for what it may print.
+#[tactic(auto, using(crate::proofs::Runs::head_laws))]
 fn take_head(phase: Phase, input: &[u8], ended: bool, out: &mut [u8]) -> Ran
     ensures { Heads phase input.now ended out.old result out.new }
 {
-    let mut phase = phase;
-    let mut consumed = 0;
-    let mut written = 0;
-    while 65537 <= out.len() - written {
-        if !is_head(phase) {
-            return Ran {
-                phase,
-                consumed,
-                written,
-                starved: false,
-            };
+    let mut ran = Ran {
+        phase,
+        consumed: 0,
+        written: 0,
+        starved: false,
+    };
+    // Stays a while: it goes on as long as what is left of the output suffices, which no iterator over
+    // the input says.
+    while 65537 <= out.len() - ran.written {
+        if !is_head(ran.phase) {
+            return ran;
         }
-        let step = take_line(phase, &input[consumed..], ended, &mut out[written..]);
-        match step {
+        match take_line(
+            ran.phase,
+            &input[ran.consumed..],
+            ended,
+            &mut out[ran.written..],
+        ) {
             Step::Starved => {
                 return Ran {
-                    phase,
-                    consumed,
-                    written,
                     starved: true,
+                    ..ran
                 };
             }
             Step::Stops(n) => {
-                let all = written + n;
                 return Ran {
                     phase: Phase::Stopped,
-                    consumed,
-                    written: all,
-                    starved: false,
+                    written: ran.written + n,
+                    ..ran
                 };
             }
             Step::Took(bytes, n, next) => {
-                phase = next;
-                consumed += bytes;
-                written += n;
+                ran.phase = next;
+                ran.consumed += bytes;
+                ran.written += n;
             }
         }
     }
-    Ran {
-        phase,
-        consumed,
-        written,
-        starved: false,
-    }
+    ran
 }
 
 // The body.
@@ -326,22 +320,34 @@ struct Place {
     memory: Packed,
 }
 
-// A Step of the body. The numbers come first, so that each stands at the same place in every variant.
-#[derive(Clone, Copy)]
-enum BodyStep {
-    Took(usize, usize, Place),
-    Stops(usize),
-    Starved,
+// What a run of the body works in. The first front_len bytes of start are the front of all lines;
+// asns are 01's AS places.
+#[derive(Drop)]
+struct Buffers {
+    start: [u8; 160],
+    front_len: usize,
+    asns: [u32; 16384],
 }
 
-// A route's line: how many bytes it has, or the number of its refusal.
+impl Buffers {
+    fn new() -> Buffers {
+        Buffers {
+            start: [0; 160],
+            front_len: 0,
+            asns: [0; 16384],
+        }
+    }
+}
+
 // An element's line and its line feed.
 fn put_element(e: Element, asns: &[u32], out: &mut [u8]) -> Result<usize, ElementError>
     requires { 65537 ≤ length out.old }
     ensures { PutElement e asns.now out.old out.new result }
 {
     let end = psv::to_psv(e, asns, &mut out[..65536])?;
-    Ok(output::write_byte(b'\n', out, end))
+    let mut w = Writer { out, at: end };
+    w.byte(b'\n');
+    Ok(w.at)
 }
 
 // A route's line by the numbers of its path.
@@ -362,30 +368,38 @@ fn print_numbers(
     Ok(put_element(element, asns, out)?)
 }
 
-// Where a plain path's last number begins, and where its text ends.
-// A path as routers print it: numbers of at most seven digits that begin with no 0, a space behind each, and one byte more (the origin). Its
-// text is then what the numbers print as. Of other paths nothing is said.
+// How many digits the word's first bytes are, if they are a number of a plain path: at most seven,
+// the first of them no 0, and a space after them.
+fn plain_digits(w: u64) -> Option<usize>
+    ensures { PlainDigits w result }
+{
+    let n = decimal::digit_count(w);
+    if n == 0 {
+        return None;
+    }
+    if 7 < n {
+        return None;
+    }
+    if (w >> (8 * n as u64)) % 256 != 32 {
+        return None;
+    }
+    let leading_zero = w % 256 == 48;
+    if leading_zero {
+        return None;
+    }
+    Some(n)
+}
+
+// Where a plain path's last number begins, and where its text ends. A plain path is as routers
+// print it: numbers with a space after each (plain_digits), and one byte more, which is no digit
+// (the origin). Its text is then what the numbers print as. Of other paths nothing is said.
+#[tactic(auto, using(crate::proofs::Copying::walk_laws))]
 fn plain_path(path: &[u8]) -> Option<(usize, usize)>
     ensures { IsPlain path.now result }
 {
     let mut at = 0;
     let mut last = 0;
-    loop {
-        let w = word::word_at(path, at);
-        let n = decimal::digit_count(w);
-        if n == 0 {
-            break;
-        }
-        if 7 < n {
-            return None;
-        }
-        if (w >> (8 * n as u64)) % 256 != 32 {
-            return None;
-        }
-        let leading_zero = w % 256 == 48;
-        if leading_zero {
-            return None;
-        }
+    while let Some(n) = plain_digits(word::word_at(path, at)) {
         last = at;
         at = at + n + 1;
     }
@@ -395,25 +409,28 @@ fn plain_path(path: &[u8]) -> Option<(usize, usize)>
     if path.len() != at + 1 {
         return None;
     }
+    if decimal::digit_count(word::word_at(path, at)) != 0 {
+        return None;
+    }
     Some((last, at - 1))
 }
 
-// The line of a route whose path is plain, with a line feed, behind what the line begins with; TooShort, and nothing written, where the path
-// is not plain or the line not surely short enough.
-fn copy_route(begin: &[u8], path: &[u8], e: Element, out: &mut [u8]) -> Result<usize, PutError>
+// The line of a route whose path is plain, with a line feed, after what the line begins with; None,
+// and nothing written, where the path is not plain or the line not surely short enough.
+fn copy_route(begin: &[u8], path: &[u8], e: Element, out: &mut [u8]) -> Option<usize>
     requires { 65537 ≤ length out.old }
     ensures { Copies begin.now path.now e out.old out.new result }
 {
     if 16384 < path.len() {
-        return Err(PutError::TooShort);
+        return None;
     }
-    let Some((last, end)) = plain_path(path) else {
-        return Err(PutError::TooShort);
-    };
+    let (last, end) = plain_path(path)?;
     let Ok(n) = psv::put_texts(begin, &path[..end], &path[last..end], e, &mut out[..65536]) else {
-        return Err(PutError::TooShort);
+        return None;
     };
-    Ok(output::write_byte(b'\n', out, n))
+    let mut w = Writer { out, at: n };
+    w.byte(b'\n');
+    Some(w.at)
 }
 
 // The same for a route under a prefix, if what its line begins with is printed.
@@ -424,19 +441,21 @@ fn copy_behind(
     entry: RouteEntry,
     path: &[u8],
     out: &mut [u8],
-) -> Result<usize, PutError>
+) -> Option<usize>
     requires in_bounds { 65537 ≤ length out.old }
     requires fine { Fine state (remembered.Valid prefix) }
     requires start_value { 0 < length start.now → start.now ≡ front_of state ++ between_text prefix }
     ensures { PutCopy state prefix entry (asns_of path.now) out.old out.new result }
 {
     if start.len() == 0 {
-        return Err(PutError::TooShort);
+        return None;
     }
     let e = state.element(prefix, entry, 0, None);
     copy_route(start, path, e, out)
 }
 
+// A route's line: copied where it can be, else by the numbers of its path.
+#[tactic(auto, using(crate::proofs::Routes::by_copy, crate::proofs::Routes::by_numbers))]
 fn print_route(
     start: &[u8],
     state: State,
@@ -452,13 +471,15 @@ fn print_route(
     ensures { PutRoute state prefix entry (asns_of (path_of entry line.now)) out.old out.new result }
 {
     let path = text_dump_line::path_of(line, entry);
-    let Ok(n) = copy_behind(start, state, prefix, entry, path, out) else {
-        return print_numbers(state, prefix, entry, path, asns, out);
-    };
-    Ok(n)
+    match copy_behind(start, state, prefix, entry, path, out) {
+        Some(n) => Ok(n),
+        None => print_numbers(state, prefix, entry, path, asns, out),
+    }
 }
 
-// What the lines under a prefix begin with is printed behind the front, if it is not yet and has room: how many bytes it has.
+// Fills the cached start of the lines under a prefix, if it is not yet and has room: how many bytes
+// it has, or 0.
+#[tactic(auto, using(crate::proofs::Routes::none_begun))]
 fn start_of(start: &mut [u8], front_len: usize, prefix: NetworkPrefix, start_len: usize) -> usize
     ensures { (front : List ℕ) → Begins front start.old front_len (remembered.Valid prefix) start_len → Begins front start.new front_len (remembered.Valid prefix) result }
 {
@@ -468,14 +489,15 @@ fn start_of(start: &mut [u8], front_len: usize, prefix: NetworkPrefix, start_len
     if 0 < start_len {
         return start_len;
     }
-    let n = psv::write_between(prefix, start, front_len);
-    if n < start.len() {
-        return n;
-    }
-    0
+    let mut w = Writer {
+        out: start,
+        at: front_len,
+    };
+    psv::write_between(prefix, &mut w);
+    if w.at < w.out.len() { w.at } else { 0 }
 }
 
-// What was printed for the prefix before serves a line with no prefix text, and no other.
+// The cached start survives only a blank prefix.
 fn kept_len(text: PrefixText, start_len: usize) -> usize
     ensures { result ≡ kept_len text start_len }
 {
@@ -488,208 +510,175 @@ fn kept_len(text: PrefixText, start_len: usize) -> usize
 
 // A line with a route.
 fn route_line(
-    start: &mut [u8],
-    front_len: usize,
+    buffers: &mut Buffers,
     state: State,
     b: Place,
     text: PrefixText,
     entry: RouteEntry,
     line: &[u8],
-    asns: &mut [u32; 16384],
     out: &mut [u8],
-) -> BodyStep
+) -> Step<Place>
     requires in_bounds { 65537 ≤ length out.old }
     requires line_value { lines line.now ≡ line.now ∷ [] }
     requires text_value { read.Route entry text ≡ line_of state.columns line.now }
-    requires kept { Kept state start.old front_len b }
+    requires kept { Kept state buffers.old.start buffers.old.front_len b }
     ensures body_does { BodyDoes state b line.now out.old out.new result }
-    ensures keeps { Keeps state start.new front_len result }
+    ensures keeps { Keeps state buffers.new.start buffers.new.front_len result }
 {
-    let number = std::num::wrapping_add_u64(b.number, 1);
+    let number = b.number.wrapping_add(1);
     let position = line.len();
-    let before = b.memory;
     let kept = kept_len(text, b.start_len);
-    let memory = packed::pack_behind(text, before);
+    let memory = packed::pack_behind(text, b.memory);
+    let bare = Place {
+        position,
+        number,
+        start_len: 0,
+        memory,
+    };
     if memory.kind < 2 {
-        return BodyStep::Took(
-            position,
-            0,
-            Place {
-                position,
-                number,
-                start_len: 0,
-                memory,
-            },
-        );
+        return Step::Took(position, 0, bare);
     }
     let prefix = packed::prefix_of(memory);
-    let start_len = start_of(start, front_len, prefix, kept);
-    let put = print_route(&start[..start_len], state, prefix, entry, line, asns, out);
+    let start_len = start_of(&mut buffers.start, buffers.front_len, prefix, kept);
+    let put = print_route(
+        &buffers.start[..start_len],
+        state,
+        prefix,
+        entry,
+        line,
+        &mut buffers.asns,
+        out,
+    );
     match put {
-        Ok(n) => BodyStep::Took(
-            position,
-            n,
-            Place {
-                position,
-                number,
-                start_len,
-                memory,
-            },
-        ),
-        Err(why) => BodyStep::Stops(refuse(why, number, out)),
+        Ok(n) => Step::Took(position, n, Place { start_len, ..bare }),
+        Err(why) => Step::Stops(refuse(why, number, out)),
     }
 }
 
 // A body line that is not too long.
 fn body_line(
-    start: &mut [u8],
-    front_len: usize,
+    buffers: &mut Buffers,
     state: State,
     b: Place,
     line: &[u8],
-    asns: &mut [u32; 16384],
     out: &mut [u8],
-) -> BodyStep
+) -> Step<Place>
     requires in_bounds { 65537 ≤ length out.old }
     requires line_value { lines line.now ≡ line.now ∷ [] }
-    requires kept { Kept state start.old front_len b }
+    requires kept { Kept state buffers.old.start buffers.old.front_len b }
     ensures body_does { BodyDoes state b line.now out.old out.new result }
-    ensures keeps { Keeps state start.new front_len result }
+    ensures keeps { Keeps state buffers.new.start buffers.new.front_len result }
 {
-    let columns = state.columns;
-    let number = std::num::wrapping_add_u64(b.number, 1);
+    let number = b.number.wrapping_add(1);
     let position = line.len();
-    let read = text_dump_line::line_of(line, columns);
-    match read {
-        Line::Unreadable => BodyStep::Stops(refuse(Refusal::UnreadableLine, number, out)),
-        Line::Passed => {
-            let memory = b.memory;
-            let start_len = b.start_len;
-            BodyStep::Took(
-                position,
-                0,
-                Place {
-                    position,
-                    number,
-                    start_len,
-                    memory,
-                },
-            )
-        }
+    let next = Place {
+        position,
+        number,
+        ..b
+    };
+    match text_dump_line::line_of(line, state.columns) {
+        Line::Unreadable => Step::Stops(refuse(Refusal::UnreadableLine, number, out)),
+        Line::Passed => Step::Took(position, 0, next),
         Line::Wrapped(wrapped) => {
             let memory = packed::pack_prefix(wrapped);
-            BodyStep::Took(
+            Step::Took(
                 position,
                 0,
                 Place {
-                    position,
-                    number,
                     start_len: 0,
                     memory,
+                    ..next
                 },
             )
         }
-        Line::Route(entry, text) => route_line(
-            start, front_len, state, b, text, entry, line, asns, out,
-        ),
+        Line::Route(entry, text) => route_line(buffers, state, b, text, entry, line, out),
     }
 }
 
 fn take_body_line(
-    start: &mut [u8],
-    front_len: usize,
+    buffers: &mut Buffers,
     state: State,
     b: Place,
     input: &[u8],
     ended: bool,
-    asns: &mut [u32; 16384],
     out: &mut [u8],
-) -> BodyStep
+) -> Step<Place>
     requires in_bounds { 65537 ≤ length out.old }
-    requires kept { Kept state start.old front_len b }
+    requires kept { Kept state buffers.old.start buffers.old.front_len b }
     ensures steps { Steps (phase_of state b) input.now ended out.old out.new (step_of state result) }
-    ensures keeps { Keeps state start.new front_len result }
+    ensures keeps { Keeps state buffers.new.start buffers.new.front_len result }
 {
-    let front = input::line_at(input, 0, ended);
-    match front {
-        Front::Starved => BodyStep::Starved,
-        Front::Nothing => BodyStep::Stops(0),
-        Front::TooLong => BodyStep::Stops(refuse(
-            Refusal::LineTooLong,
-            std::num::wrapping_add_u64(b.number, 1),
-            out,
-        )),
-        Front::Line(end) => body_line(start, front_len, state, b, &input[..end], asns, out),
+    match input::line_at(input, 0, ended) {
+        Front::Starved => Step::Starved,
+        Front::Nothing => Step::Stops(0),
+        Front::TooLong => Step::Stops(refuse(Refusal::LineTooLong, b.number.wrapping_add(1), out)),
+        Front::Line(end) => body_line(buffers, state, b, &input[..end], out),
     }
 }
 
 // A run that ends in the body.
+#[tactic(auto, using(crate::proofs::Bodies::ran))]
 fn body_ran(state: State, b: Place, consumed: usize, written: usize, starved: bool) -> Ran
     ensures { result ≡ record { phase = phase_of state b; consumed = consumed; written = written; starved = starved } }
 {
-    let position = b.position;
-    let memory = b.memory;
-    let remembered = packed::unpack(memory);
-    let number = b.number;
+    let remembered = packed::unpack(b.memory);
     Ran {
-        phase: Phase::Body(state.moved(position, remembered), number),
+        phase: Phase::Body(state.moved(b.position, remembered), b.number),
         consumed,
         written,
         starved,
     }
 }
 
-// Takes lines of the body as long as there is a whole one, and room for what it may print. The first bytes of start are the front of all lines.
+// Takes lines of the body as long as there is a whole one, and room for what it may print.
+// Stays a loop of its own: a trait for both (the phase of a place, what holds before a line, whether
+// the next line is of this part, a step) and its two impls have more lines than the two loops.
+#[tactic(auto, using(crate::proofs::Bodies::body_laws))]
 fn take_body(
-    start: &mut [u8],
-    front_len: usize,
+    buffers: &mut Buffers,
     state: State,
     number: u64,
     input: &[u8],
     ended: bool,
-    asns: &mut [u32; 16384],
     out: &mut [u8],
 ) -> Ran
     requires fine { Fine state state.remembered }
-    requires begins { Begins (front_of state) start.old front_len state.remembered 0 }
+    requires begins { Begins (front_of state) buffers.old.start buffers.old.front_len state.remembered 0 }
     ensures { Runs (phase.Body state number) input.now ended out.old result out.new }
 {
-    let remembered = state.remembered;
-    let position = state.position;
-    let memory = packed::pack(remembered);
+    let memory = packed::pack(state.remembered);
     let mut b = Place {
-        position,
+        position: state.position,
         number,
         start_len: 0,
         memory,
     };
     let mut consumed = 0;
     let mut written = 0;
+    // Stays a while: it goes on as long as what is left of the output suffices, which no iterator over
+    // the input says.
     while 65537 <= out.len() - written {
         let step = take_body_line(
-            start,
-            front_len,
+            buffers,
             state,
             b,
             &input[consumed..],
             ended,
-            asns,
             &mut out[written..],
         );
         match step {
-            BodyStep::Starved => {
+            Step::Starved => {
                 return body_ran(state, b, consumed, written, true);
             }
-            BodyStep::Stops(n) => {
-                let all = written + n;
+            Step::Stops(n) => {
                 return Ran {
                     phase: Phase::Stopped,
                     consumed,
-                    written: all,
+                    written: written + n,
                     starved: false,
                 };
             }
-            BodyStep::Took(bytes, n, next) => {
+            Step::Took(bytes, n, next) => {
                 b = next;
                 consumed += bytes;
                 written += n;
@@ -699,22 +688,11 @@ fn take_body(
     body_ran(state, b, consumed, written, false)
 }
 
-// 01's AS places.
-fn places() -> [u32; 16384] {
-    [0; 16384]
-}
-
-// Prints what the lines of a table begin with: how many bytes it has.
+// Prints what the lines of a table begin with: how many bytes it has, or 0.
 fn put_start(state: State, out: &mut [u8]) -> usize
     ensures { Begins (front_of state) out.new result state.remembered 0 }
 {
-    let timestamp = state.timestamp;
-    let peer_ip = state.peer_ip;
-    let peer_asn = state.peer_asn;
-    let Ok(n) = psv::put_front(true, timestamp, peer_ip, peer_asn, out) else {
-        return 0;
-    };
-    n
+    psv::put_front(true, state.timestamp, state.peer_ip, state.peer_asn, out).unwrap_or(0)
 }
 
 // A run from the body on. What its lines begin with is printed once, the field of a prefix once for its lines.
@@ -722,10 +700,9 @@ fn run_body(state: State, number: u64, input: &[u8], ended: bool, out: &mut [u8]
     requires { Fine state state.remembered }
     ensures { Runs (phase.Body state number) input.now ended out.old result out.new }
 {
-    let mut asns = places();
-    let mut start = [0u8; 160];
-    let n = put_start(state, &mut start);
-    take_body(&mut start, n, state, number, input, ended, &mut asns, out)
+    let mut buffers = Buffers::new();
+    buffers.front_len = put_start(state, &mut buffers.start);
+    take_body(&mut buffers, state, number, input, ended, out)
 }
 
 // The head, and then the body.
@@ -733,27 +710,22 @@ pub fn run(phase: Phase, input: &[u8], ended: bool, out: &mut [u8]) -> Ran
     ensures { Runs phase input.now ended out.old result out.new }
 {
     let head = take_head(phase, input, ended, out);
-    let next = head.phase;
-    if is_head(next) {
+    if is_head(head.phase) {
         return head;
     }
-    let Phase::Body(state, number) = next else {
+    let Phase::Body(state, number) = head.phase else {
         return head;
     };
-    let consumed = head.consumed;
-    let written = head.written;
     let body = run_body(
         state,
         number,
-        &input[consumed..],
+        &input[head.consumed..],
         ended,
-        &mut out[written..],
+        &mut out[head.written..],
     );
-    let last = body.phase;
     Ran {
-        phase: last,
-        consumed: consumed + body.consumed,
-        written: written + body.written,
-        starved: body.starved,
+        consumed: head.consumed + body.consumed,
+        written: head.written + body.written,
+        ..body
     }
 }

@@ -1,9 +1,8 @@
 -- Each answer of the functions over `second_of`, from the tests and answers that lead to it. Assumes nothing.
-use Rattle.std.proofs.Common.{◌≡◌, ℕ, true, false, pos, sym, ap}
-use Rattle.std.specs.Prelude.{is_some, Option, Some, None}
+use Rattle.std.proofs.Common.{◌≡◌, ℕ, true, false, pos}
+use Rattle.std.specs.Prelude.{Option, Some, None}
 use lib.Ieee.{Float, fin, lt, neg, binary64, of_bits}
-use Rattle.seconds.specs.Seconds.{whole_number, before1970, since1970, second_of, is_timestamp, timestamp_of_bits}
-use Rattle.seconds.proofs.Callers.{second_some, second_none}
+use Rattle.seconds.specs.Seconds.{whole_number, before1970, since1970, second_of, timestamp_of_bits}
 
 -- the second of t, whose magnitude is r
 module _ (t : Float) (r : Option ℕ) where
@@ -15,20 +14,12 @@ module _ (t : Float) (r : Option ℕ) where
   unfolding second_of
   since late e = rw (late, e)
 
--- whether t, whose second is r, is a timestamp
-module _ (t : Float) (r : Option ℕ) (e : r ≡ second_of t) where
-  pub is_one_lem : (o : ℕ) → r ≡ Some o → true ≡ is_timestamp t
-  is_one_lem o f = sym (ap is_some (second_some (second_of t) r o e f))
-
-  pub is_none : r ≡ None → false ≡ is_timestamp t
-  is_none f = sym (ap is_some (second_none (second_of t) r e f))
-
 -- the timestamp of bits whose float has the second r
 module _ (bits : ℕ) (r : Option ℕ) (e : r ≡ second_of (of_bits binary64 bits)) where
   pub bits_one : (o : ℕ) → r ≡ Some o → Some (of_bits binary64 bits) ≡ timestamp_of_bits bits
   unfolding timestamp_of_bits
-  bits_one o f = rw (← is_one_lem (of_bits binary64 bits) r e o f)
+  bits_one o f = rw (← e, f)
 
   pub bits_none : r ≡ None → None ≡ timestamp_of_bits bits
   unfolding timestamp_of_bits
-  bits_none f = rw (← is_none (of_bits binary64 bits) r e f)
+  bits_none f = rw (← e, f)

@@ -3,10 +3,11 @@
 #![tactic(auto)]
 
 ghost use Rattle.std.specs.Prelude.{◌≡◌, ◌≤◌, length};
-ghost use Rattle.output.specs.Output.{Written, front, answer};
+ghost use Rattle.output.specs.Writing.{Writes};
+ghost use Rattle.output.specs.Output.{front, answer};
 ghost use Rattle.seconds.specs.Seconds.{whole_number, second_of, timestamp_of, is_timestamp, timestamp_of_bits, timestamp_text};
 
-use output::PutError;
+use output::{PutError, Writer};
 
 // The start of 1970.
 const EPOCH: u64 = 62167219200;
@@ -28,7 +29,7 @@ fn whole_number(x: f64) -> Option<u64>
     None
 }
 
-// The second of a timestamp; Nothing where t is none.
+// The second of a timestamp; None where t is none.
 pub fn second_of(t: f64) -> Option<u64>
     ensures { result ≡ second_of t }
 {
@@ -49,10 +50,7 @@ pub fn second_of(t: f64) -> Option<u64>
 pub fn is_timestamp(t: f64) -> bool
     ensures { result ≡ is_timestamp t }
 {
-    match second_of(t) {
-        Some(_) => true,
-        None => false,
-    }
+    second_of(t).is_some()
 }
 
 // The timestamp of a second, exact for every second of the years 0 to 9999; beyond them the nearest float.
@@ -67,6 +65,7 @@ pub fn timestamp_of(second: u64) -> f64
 }
 
 // The timestamp whose bits these are. They come from anywhere: those of a NaN are refused before they become a float.
+#[tactic(auto, using(crate::proofs::Bits::of_nan, crate::proofs::Bits::of_number, crate::proofs::Answers::bits_one, crate::proofs::Answers::bits_none))]
 pub fn timestamp_of_bits(bits: u64) -> Option<f64>
     ensures { result ≡ timestamp_of_bits bits }
 {
@@ -75,9 +74,7 @@ pub fn timestamp_of_bits(bits: u64) -> Option<f64>
         return None;
     }
     let t = f64::from_bits(bits);
-    let Some(_) = second_of(t) else {
-        return None;
-    };
+    second_of(t)?;
     Some(t)
 }
 
@@ -88,10 +85,10 @@ pub fn timestamp_len(second: u64) -> usize
     decimal_display::difference_len(second, EPOCH)
 }
 
-pub fn write_timestamp(second: u64, out: &mut [u8], at: usize) -> usize
-    ensures { Written (timestamp_text second) out.old at out.new result }
+pub fn write_timestamp(second: u64, w: &mut Writer)
+    ensures { Writes (timestamp_text second) w.old w.new }
 {
-    decimal_display::write_difference(second, EPOCH, out, at)
+    decimal_display::write_difference(second, EPOCH, w);
 }
 
 pub fn put_timestamp(second: u64, out: &mut [u8]) -> Result<usize, PutError>
@@ -100,5 +97,7 @@ pub fn put_timestamp(second: u64, out: &mut [u8]) -> Result<usize, PutError>
     if out.len() < timestamp_len(second) {
         return Err(PutError::TooShort);
     }
-    Ok(write_timestamp(second, out, 0))
+    let mut w = Writer { out, at: 0 };
+    write_timestamp(second, &mut w);
+    Ok(w.at)
 }

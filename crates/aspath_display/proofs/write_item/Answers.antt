@@ -1,5 +1,5 @@
-use Rattle.output.proofs.Output.{then}
+use Rattle.output.proofs.Writing.{then}
 use Rattle.aspath_display.proofs.write_item.Goals as goal
 
 pub returns : goal.returns
-returns c = then c.write_lead-behind.ensures c.write_segment.ensures
+returns c = search then

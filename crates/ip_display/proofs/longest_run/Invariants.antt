@@ -7,6 +7,3 @@ use Rattle.ip_display.proofs.longest_run.Given as goal
 abbrev pub invariant-loop-i : goal.invariant-loop-i
 invariant-loop-i l =
     (length l.g ≡ 8) × (l.i ≤ 8) × (l.n + l.i ≤ 8) × (l.n ≡ zeros (drop l.i l.g)) × (l.len ≡ longest (drop l.i l.g)) × (l.start ≡ l.i + first_run l.len (drop l.i l.g))
-
-abbrev pub decreases-loop-i : goal.decreases-loop-i
-decreases-loop-i l = l.i

@@ -1,8 +1,5 @@
-use borrow.Author.Rules.{rules}
-use Rattle.output.proofs.Output.{then}
+use Rattle.output.proofs.Writing.{then}
 use Rattle.ip_display.proofs.write_before_dot.Goals as goal
 
-ruleset laws = then
-
 pub returns : goal.returns
-returns c = search (laws, rules)
+returns c = then c.write_octet.ensures c.byte.ensures

@@ -1,89 +1,19 @@
-use borrow.Author.Rules.{rules}
-use Rattle.ip_display.proofs.Writing.{written_1, written_2, written_3, written_4}
+use Rattle.std.proofs.Common.{arith}
+use Rattle.ip_display.proofs.Writing.{one_digit, two_digits, three_digits, four_digits, as_text}
 use Rattle.ip_display.proofs.write_hex.Goals as goal
 
-ruleset laws = (written_1, written_2, written_3, written_4)
+pub returns-in-0-to-15 : goal.returns-in-0-to-15
+returns-in-0-to-15 c = as_text _ _ _ _ (one_digit c.args.g _ _ _ c.hex_byte-b.ensures c.hex_byte-c.ensures c.hex_byte-d.ensures (omega arith)) c.byte.ensures
 
-pub hex_byte-requires : goal.hex_byte-requires
-hex_byte-requires c = search (laws, rules)
+pub returns-in-16-to-255 : goal.returns-in-16-to-255
+returns-in-16-to-255 c =
+    as_text _ _ _ _ (two_digits c.args.g _ _ _ c.hex_byte-b.ensures c.hex_byte-c.ensures c.hex_byte-d.ensures (omega arith) (omega arith)) c.bytes.ensures
 
-pub write_byte-requires : goal.write_byte-requires
-write_byte-requires c = search (laws, rules)
+pub returns-in-256-to-4095 : goal.returns-in-256-to-4095
+returns-in-256-to-4095 c =
+    as_text _ _ _ _ (three_digits c.args.g _ _ _ c.hex_byte-b.ensures c.hex_byte-c.ensures c.hex_byte-d.ensures (omega arith) (omega arith)) c.bytes-in-256-to-4095.ensures
 
-pub shape_of-out-then-g-lt16 : goal.shape_of-out-then-g-lt16
-shape_of-out-then-g-lt16 c = search (laws, rules)
-
-pub returns-then-g-lt16 : goal.returns-then-g-lt16
-returns-then-g-lt16 c = search (laws, rules)
-
-pub hex_byte-requires-then-g-lt256 : goal.hex_byte-requires-then-g-lt256
-hex_byte-requires-then-g-lt256 c = search (laws, rules)
-
-pub write_byte-a-requires : goal.write_byte-a-requires
-write_byte-a-requires c = search (laws, rules)
-
-pub hex_byte-requires-then-g-lt256-2 : goal.hex_byte-requires-then-g-lt256-2
-hex_byte-requires-then-g-lt256-2 c = search (laws, rules)
-
-pub write_byte-requires-then-g-lt256 : goal.write_byte-requires-then-g-lt256
-write_byte-requires-then-g-lt256 c = search (laws, rules)
-
-pub shape_of-out-then-g-lt256 : goal.shape_of-out-then-g-lt256
-shape_of-out-then-g-lt256 c = search (laws, rules)
-
-pub returns-then-g-lt256 : goal.returns-then-g-lt256
-returns-then-g-lt256 c = search (laws, rules)
-
-pub hex_byte-requires-then-g-lt4096 : goal.hex_byte-requires-then-g-lt4096
-hex_byte-requires-then-g-lt4096 c = search (laws, rules)
-
-pub write_byte-a-requires-then-g-lt4096 : goal.write_byte-a-requires-then-g-lt4096
-write_byte-a-requires-then-g-lt4096 c = search (laws, rules)
-
-pub hex_byte-requires-then-g-lt4096-2 : goal.hex_byte-requires-then-g-lt4096-2
-hex_byte-requires-then-g-lt4096-2 c = search (laws, rules)
-
-pub write_byte-b-requires : goal.write_byte-b-requires
-write_byte-b-requires c = search (laws, rules)
-
-pub hex_byte-requires-then-g-lt4096-3 : goal.hex_byte-requires-then-g-lt4096-3
-hex_byte-requires-then-g-lt4096-3 c = search (laws, rules)
-
-pub write_byte-requires-then-g-lt4096 : goal.write_byte-requires-then-g-lt4096
-write_byte-requires-then-g-lt4096 c = search (laws, rules)
-
-pub shape_of-out-then-g-lt4096 : goal.shape_of-out-then-g-lt4096
-shape_of-out-then-g-lt4096 c = search (laws, rules)
-
-pub returns-then-g-lt4096 : goal.returns-then-g-lt4096
-returns-then-g-lt4096 c = search (laws, rules)
-
-pub hex_byte-requires-2 : goal.hex_byte-requires-2
-hex_byte-requires-2 c = search (laws, rules)
-
-pub write_byte-a-requires-2 : goal.write_byte-a-requires-2
-write_byte-a-requires-2 c = search (laws, rules)
-
-pub hex_byte-requires-3 : goal.hex_byte-requires-3
-hex_byte-requires-3 c = search (laws, rules)
-
-pub write_byte-b-requires-2 : goal.write_byte-b-requires-2
-write_byte-b-requires-2 c = search (laws, rules)
-
-pub hex_byte-requires-4 : goal.hex_byte-requires-4
-hex_byte-requires-4 c = search (laws, rules)
-
-pub write_byte-c-requires : goal.write_byte-c-requires
-write_byte-c-requires c = search (laws, rules)
-
-pub hex_byte-requires-5 : goal.hex_byte-requires-5
-hex_byte-requires-5 c = search (laws, rules)
-
-pub write_byte-requires-2 : goal.write_byte-requires-2
-write_byte-requires-2 c = search (laws, rules)
-
-pub shape_of-out : goal.shape_of-out
-shape_of-out c = search (laws, rules)
-
-pub returns : goal.returns
-returns c = search (laws, rules)
+pub returns-in_default : goal.returns-in_default
+returns-in_default c =
+    as_text _ _ _ _ (four_digits c.args.g _ _ _ c.hex_byte-b.ensures c.hex_byte-c.ensures c.hex_byte-d.ensures (omega arith) (omega arith) _ c.hex_byte-a.ensures)
+    c.bytes-in_default.ensures

@@ -1,8 +1,5 @@
-use borrow.Author.Rules.{rules}
-use Rattle.ip_display.proofs.Writing.{written_dotted}
+use Rattle.ip_display.proofs.Writing.{dotted_written}
 use Rattle.ip_display.proofs.write_ipv4.Goals as goal
 
-ruleset laws = written_dotted
-
 pub returns : goal.returns
-returns c = search (laws, rules)
+returns c = dotted_written _ _ _ _ _ _ c.write_before_dot.ensures c.write_before_dot-2.ensures c.write_before_dot-3.ensures c.write_octet.ensures

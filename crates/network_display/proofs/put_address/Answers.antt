@@ -1,20 +1,10 @@
-use borrow.Author.Rules.{rules}
-use Rattle.output.proofs.Output.{too_short, kept, wrote, whole}
+use Rattle.std.proofs.Common.{rules, refl}
+use Rattle.output.proofs.Output.{too_short, kept}
+use Rattle.output.proofs.Writing.{put}
 use Rattle.network_display.proofs.put_address.Goals as goal
 
-ruleset laws = (too_short, kept, wrote, whole)
-
-pub address_len-requires : goal.address_len-requires
-address_len-requires c = search (laws, rules)
-
 pub returns-then-out-address_len : goal.returns-then-out-address_len
-returns-then-out-address_len c = search (laws, rules)
-
-pub write_address-requires : goal.write_address-requires
-write_address-requires c = search (laws, rules)
-
-pub shape_of-out : goal.shape_of-out
-shape_of-out c = search (laws, rules)
+returns-then-out-address_len c = search (too_short, kept)
 
 pub returns : goal.returns
-returns c = search (laws, rules)
+returns c = put c.address_len.ensures.0 c.if-out-address_len.false c.write_address.ensures refl (search rules)

@@ -1,12 +1,12 @@
-use Rattle.psv.proofs.Printing.{header_short, header_written}
-use native.Mathlib.Omega.{arith}
+use mathlib.Core.Path.{refl}
 use borrow.Author.Rules.{rules}
+use Rattle.output.proofs.Output.{too_short, kept}
+use Rattle.output.proofs.Writing.{put}
+use Rattle.psv.proofs.Printing.{header_is, header_length}
 use Rattle.psv.proofs.get_psv_header.Goals as goal
 
-ruleset laws = (header_short, header_written)
-
 pub returns-then-short : goal.returns-then-short
-returns-then-short c = search (laws, rules, arith)
+returns-then-short c = (too_short _ _ _ header_length c.if-short.true, kept _ _ _ header_length c.if-short.true)
 
 pub returns : goal.returns
-returns c = header_written _ _ _ (omega arith) c.write_bytes.ensures
+returns c = let h = rw (← header_is) at c.bytes.ensures in put header_length c.if-short.false h refl (search rules)

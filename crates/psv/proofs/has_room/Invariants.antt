@@ -1,15 +1,12 @@
 use mathlib.Core.Path.{◌≡◌}
 use mathlib.Core.Bool.{true}
-use Prim.Native.Nat.{◌-◌, ◌≤◌}
 use lib.ListN.{length, drop}
 use lib.Dec.{leb}
 use Rattle.decimal_display.specs.Printed.{decimal}
 use Rattle.aspath_display.specs.Display.{separated}
 use Rattle.psv.proofs.has_room.Given as goal
 
-abbrev pub invariant-loop-i : goal.invariant-loop-i
-invariant-loop-i l =
-    (l.i ≤ length l.numbers) × (leb (length (separated 32 decimal true l.numbers)) l.room ≡ leb (length (separated 32 decimal l.first (drop l.i l.numbers))) l.left)
-
-abbrev pub decreases-loop-i : goal.decreases-loop-i
-decreases-loop-i l = length l.numbers - l.i
+-- the numbers that are left have room in what is left exactly where all have room
+abbrev pub invariant-loop-number : goal.invariant-loop-number
+invariant-loop-number l =
+    leb (length (separated 32 decimal true l.numbers)) l.room ≡ leb (length (separated 32 decimal l.first (drop l.number-index l.numbers))) l.left

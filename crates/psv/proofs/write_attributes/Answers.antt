@@ -1,7 +1,7 @@
-use Rattle.psv.proofs.Printing.{attributes_written}
+use Rattle.output.proofs.Writing.{then}
+use Rattle.psv.specs.Line.{attributes_text}
 use Rattle.psv.proofs.write_attributes.Goals as goal
 
-ruleset laws = (attributes_written)
-
 pub returns : goal.returns
-returns c = search laws
+unfolding attributes_text
+returns c = search then depth 12

@@ -1,8 +1,7 @@
-use Rattle.psv.proofs.Printing.{between_written}
-use borrow.Author.Rules.{rules}
+use Rattle.output.proofs.Writing.{then}
+use Rattle.psv.specs.Line.{between_text}
 use Rattle.psv.proofs.write_between.Goals as goal
 
-ruleset laws = (between_written)
-
 pub returns : goal.returns
-returns c = search (laws, rules)
+unfolding between_text
+returns c = search then

@@ -1,8 +1,7 @@
-use Rattle.psv.proofs.Printing.{front_written}
-use borrow.Author.Rules.{rules}
+use Rattle.output.proofs.Writing.{then}
+use Rattle.psv.specs.Line.{front_text}
 use Rattle.psv.proofs.write_front.Goals as goal
 
-ruleset laws = (front_written)
-
 pub returns : goal.returns
-returns c = search (laws, rules)
+unfolding front_text
+returns c = search then depth 12

@@ -1,11 +1,15 @@
-use Rattle.psv.proofs.Printing.{psv_tail_written, display_tail_written}
+use mathlib.Core.Path.{◌≡◌}
 use borrow.Author.Rules.{rules}
+use Rattle.std.specs.Prelude.{option_map}
+use Rattle.network.specs.declared.Asn.{Asn}
+use Rattle.output.proofs.Writing.{then}
+use Rattle.psv.specs.Line.{tail_text}
+use Rattle.psv.proofs.Printing.{asn_number}
 use Rattle.psv.proofs.write_tail.Goals as goal
 
-ruleset laws = (psv_tail_written, display_tail_written)
-
-pub returns-then-psv : goal.returns-then-psv
-returns-then-psv c = search (laws, rules)
-
 pub returns : goal.returns
-returns c = search (laws, rules)
+unfolding tail_text
+returns c =
+    let m : c.map.result ≡ option_map (λ (a : Asn). a.0) c.args.e.origin_asn = search rules in
+    let n = rw (m, asn_number _) at c.write_number.ensures in
+    then (then (then c.byte.ensures n) c.write_attributes.ensures) c.byte-2.ensures

@@ -1,11 +1,7 @@
-use Rattle.psv.proofs.Printing.{time_written, no_time_written}
-use borrow.Author.Rules.{rules}
+use Rattle.output.proofs.Writing.{nothing}
+use Rattle.psv.specs.Line.{time_text}
 use Rattle.psv.proofs.write_time.Goals as goal
 
-ruleset laws = (time_written, no_time_written)
-
-pub returns-in-Some : goal.returns-in-Some
-returns-in-Some c = search (laws, rules)
-
-pub returns-in-None : goal.returns-in-None
-returns-in-None c = search (laws, rules)
+pub returns-in_default : goal.returns-in_default
+unfolding time_text
+returns-in_default c = rw (← c.second_of.ensures, c.in_default.is) (nothing _)

@@ -1,9 +1,6 @@
-use Rattle.std.proofs.Common.{arith, length-take, rules}
+use Rattle.std.proofs.Common.{arith, rules}
 use Rattle.psv_stream.proofs.Lines.{opens, no_columns_yet, no_columns, unreadable_line_lem, no_timestamp}
 use Rattle.psv_stream.proofs.header_line.Goals as goal
-
-pub slice_bounds-open-end : goal.slice_bounds-open-end
-slice_bounds-open-end c = simp length-take (omega arith)
 
 pub returns-then-more : goal.returns-then-more
 returns-then-more c = search (no_columns_yet, arith)

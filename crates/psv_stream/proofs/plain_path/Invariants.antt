@@ -1,10 +1,9 @@
 use Rattle.std.proofs.Common.{◌-◌, length}
 use Rattle.psv_stream.proofs.Copying.{Copied}
--- behind a number there is room for its space
 use Rattle.psv_stream.proofs.plain_path.Given as goal
 
-abbrev pub invariant-loop-w : goal.invariant-loop-w
-invariant-loop-w l = Copied l.path l.at l.last
+abbrev pub invariant-loop-n : goal.invariant-loop-n
+invariant-loop-n l = Copied l.path l.at l.last
 
-abbrev pub decreases-loop-w : goal.decreases-loop-w
-decreases-loop-w l = length l.path - l.at
+abbrev pub decreases-loop-n : goal.decreases-loop-n
+decreases-loop-n l = length l.path - l.at
