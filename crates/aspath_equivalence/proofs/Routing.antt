@@ -71,6 +71,11 @@ pub record Ensured (P : Option (List Segment)) (v : Counts) (s n : ℕ) (ks ls n
   pub lengths : ls' ≡ after (λ p. lengths_of (dedup_coalesce p)) P s ls
   pub numbers : ns' ≡ after (λ p. numbers_of (dedup_coalesce p)) P n ns
 
+pub ensured : {P : Option (List Segment)} {v : Counts} {s n : ℕ} {ks ls ns ks' ls' ns' : List ℕ} → Ok v ≡ counts dedup_coalesce P
+    → ks' ≡ after (λ p. kinds_of (dedup_coalesce p)) P s ks → ls' ≡ after (λ p. lengths_of (dedup_coalesce p)) P s ls
+    → ns' ≡ after (λ p. numbers_of (dedup_coalesce p)) P n ns → Ensured P v s n ks ls ns ks' ls' ns'
+ensured v k l n = record { value = v; kinds = k; lengths = l; numbers = n }
+
 -- what stands at the front of a list that was rewritten in place
 module _ (layout : List Segment → List ℕ) (P : Option (List Segment)) (p : List Segment) (h : Some p ≡ P) (c m : ℕ) (old new : List ℕ)
     (e : new ≡ after layout P c old) (fits : length (layout p) ≡ m) where
@@ -113,14 +118,13 @@ module _ (P : Option (List Segment)) (v : Counts) (s n : ℕ) (ks ls ns ks' ls' 
   numbers_fit : length (numbers_of (dedup_coalesce p)) ≡ v.numbers
   numbers_fit = sym (ap (λ (w : Counts). w.numbers) is_counts)
 
-  pub kinds_left : v.segments ≤ length ks'
-  kinds_left = there (λ p. kinds_of (dedup_coalesce p)) P p is_path s v.segments ks ks' e.kinds kinds_fit
-
-  pub lengths_left : v.segments ≤ length ls'
-  lengths_left = there (λ p. lengths_of (dedup_coalesce p)) P p is_path s v.segments ls ls' e.lengths lengths_fit
-
-  pub numbers_left : v.numbers ≤ length ns'
-  numbers_left = there (λ p. numbers_of (dedup_coalesce p)) P p is_path n v.numbers ns ns' e.numbers numbers_fit
+  -- the parts that are read of the lists
+  pub parts_left : (v.segments ≤ length ks') × (v.segments ≤ length ls') × (v.numbers ≤ length ns')
+  parts_left = (
+    there (λ p. kinds_of (dedup_coalesce p)) P p is_path s v.segments ks ks' e.kinds kinds_fit,
+    there (λ p. lengths_of (dedup_coalesce p)) P p is_path s v.segments ls ls' e.lengths lengths_fit,
+    there (λ p. numbers_of (dedup_coalesce p)) P p is_path n v.numbers ns ns' e.numbers numbers_fit,
+  )
 
   kinds_taken : take v.segments ks' ≡ kinds_of (dedup_coalesce p)
   kinds_taken = taken (λ p. kinds_of (dedup_coalesce p)) P p is_path s v.segments ks ks' e.kinds kinds_fit

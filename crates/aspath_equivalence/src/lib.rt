@@ -46,7 +46,7 @@ impl<'a> NormalForm<'a> {
 
 // AsPath::has_equivalent_routing, which leaves both paths in their normal form. The second is tested
 // before the first is changed; the answer does not tell which of two was spoilt.
-// Stays six lent lists and four counts: a struct with &mut asks each function for a ghost name.
+// Stays six lent lists and four counts, as dedup_coalesce takes them.
 pub fn has_equivalent_routing(
     kinds: &mut [u8],
     lengths: &mut [u32],

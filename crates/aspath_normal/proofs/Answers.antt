@@ -2,7 +2,9 @@
 use mathlib.Core.Path.{◌≡◌, sym, ap, ap₂, ◌∙◌}
 use mathlib.Core.List.{List, ◌++◌, map}
 use mathlib.Core.Bool.{Bool, true, false}
-use Rattle.std.proofs.Common.{Some, None, Ok, Err, cond, refl}
+use Rattle.std.proofs.Common.{Some, None, Ok, Result, cond, refl}
+use Rattle.std.specs.Prelude.{IsErrAnd}
+use Rattle.std.proofs.lemmas.Result.{err_from_is_err_and}
 use Prim.Native.Nat.{ℕ, ◌≤◌}
 use native.Mathlib.Omega.{arith}
 use lib.ListN.{length, take, drop, length-map}
@@ -14,7 +16,7 @@ use Rattle.aspath_normal.specs.Normal.{coalesce, dedup_coalesce}
 use Rattle.aspath_normal.specs.Layout.{after, counts}
 use Rattle.aspath_normal.specs.Entries.{entry, coalesced_entries, Coalesced}
 use Rattle.aspath_normal.specs.Whole.{Fit, NormalIn}
-use Rattle.aspath.specs.Queries.{spoilt_record}
+use Rattle.aspath.specs.declared.Spoilt.{Spoilt}
 use Rattle.aspath_normal.specs.declared.Counts.{Counts}
 use Rattle.aspath_normal.proofs.Entries.{entry_kinds, entry_lengths}
 use Rattle.aspath_normal.proofs.Calls.{coalesce_numbers, coalesced_entries_lem}
@@ -25,9 +27,9 @@ counted s n = record { segments = s; numbers = n }
 module _ (ks ls ns : List ℕ) (s n : ℕ) where
   -- a spoilt record
   module _ (e : None ≡ path ks ls ns s n) where
-    pub refused : (f : List Segment → List Segment) → Err spoilt_record ≡ counts f (path ks ls ns s n)
+    pub refused : (f : List Segment → List Segment) (Q : Spoilt → Type 0) (r : Result Counts Spoilt) → IsErrAnd r Q → r ≡ counts f (path ks ls ns s n)
     unfolding counts
-    refused f = rw (← e)
+    refused f Q r h = (err_from_is_err_and r h).1 ∙ rw (← e)
 
     pub unchanged : (layout : List Segment → List ℕ) (k : ℕ) (old : List ℕ) → old ≡ after layout (path ks ls ns s n) k old
     unfolding after
@@ -52,12 +54,22 @@ module _ (ks ls ns : List ℕ) (s n : ℕ) where
     pub numbers_there : n ≤ length ns
     numbers_there = (unspoilt_record ks ls ns s n sound).numbers_there
 
+    -- the parts that the calls take
+    pub kinds_taken : s ≡ length (take s ks)
+    kinds_taken = sym (length-take-le s ks kinds_there)
+
+    pub lengths_taken : s ≡ length (take s ls)
+    lengths_taken = sym (length-take-le s ls lengths_there)
+
+    pub numbers_taken : n ≡ length (take n ns)
+    numbers_taken = sym (length-take-le n ns numbers_there)
+
     pub fit : Fit (take s ks) (take s ls) (take n ns)
     fit =
         record {
-          same = length-take-le s ks kinds_there ∙ sym (length-take-le s ls lengths_there);
-          sums = (unspoilt_record ks ls ns s n sound).sums ∙ sym (length-take-le n ns numbers_there);
-          few = omega (arith, length-take-le n ns numbers_there, (unspoilt_record ks ls ns s n sound).few_numbers);
+          same = sym kinds_taken ∙ lengths_taken;
+          sums = (unspoilt_record ks ls ns s n sound).sums ∙ numbers_taken;
+          few = omega (arith, numbers_taken, (unspoilt_record ks ls ns s n sound).few_numbers);
         }
 
     pub fit_entries : (length (take s ks) ≡ length (take s ls)) × (sum (take s ls) ≤ 16384)
@@ -105,3 +117,6 @@ module _ (ks ls ns : List ℕ) (s n : ℕ) where
       pub normal_numbers : ns' ++ drop n ns ≡ after (λ q. numbers_of (dedup_coalesce q)) (path ks ls ns s n) n ns
       unfolding after
       normal_numbers = rw (is_path, d.numbers, length-take-le n ns numbers_there)
+
+-- for both calls: a spoilt record, and the parts that are taken of another
+pub ruleset record_laws = (refused, unchanged, kinds_there, lengths_there, numbers_there, kinds_taken, lengths_taken, numbers_taken, fit, fit_entries)

@@ -1,5 +1,6 @@
 // The normal forms of a path, made in the lent lists.
-// Stays three lent lists and two counts: a struct with &mut asks each function for a ghost name.
+// Stays three lent lists and two counts: coalesce is lent its numbers to read alone and
+// dedup_coalesce to change, so two structs more would stand beside PathRecord for two calls.
 #![tactic(auto)]
 
 ghost use Rattle.std.specs.Prelude.{◌≡◌, ◌+◌, ◌≤◌, ◌<◌, ◌^◌, map, length, take, drop, replicate};
@@ -90,7 +91,7 @@ fn coalesce_entries(kinds: &mut [u8], lengths: &mut [u32]) -> usize
 }
 
 // AsPath::coalesce. The numbers stay where they are.
-#[tactic(auto, using(crate::proofs::Answers::kinds_there, crate::proofs::Answers::lengths_there, crate::proofs::Answers::numbers_there))]
+#[tactic(auto, using(crate::proofs::Answers::record_laws))]
 pub fn coalesce(
     kinds: &mut [u8],
     lengths: &mut [u32],
@@ -224,7 +225,7 @@ fn normalise(kinds: &mut [u8], lengths: &mut [u32], numbers: &mut [u32]) -> Coun
 }
 
 // AsPath::dedup_coalesce
-#[tactic(auto, using(crate::proofs::Answers::kinds_there, crate::proofs::Answers::lengths_there, crate::proofs::Answers::numbers_there))]
+#[tactic(auto, using(crate::proofs::Answers::record_laws))]
 pub fn dedup_coalesce(
     kinds: &mut [u8],
     lengths: &mut [u32],

@@ -1,4 +1,5 @@
 pub mod Answers
+pub mod Behind
 pub mod Joined
 pub mod Routes
 pub mod Runs

@@ -57,16 +57,15 @@ impl From<VariationsError> for RouteError {
     }
 }
 
-// A writer of one number, where there is a place (output's Output).
-fn write_number(a: u32, out: &mut [u32], at: usize) -> usize
-    ensures { Written (a ∷ []) out.old at out.new result }
+// Writes one number, where there is a place (output's Written).
+fn write_number(a: u32, out: &mut [u32]) -> usize
+    ensures { Written (a ∷ []) out.old 0 out.new result }
 {
-    if at < out.len() {
-        out[at] = a;
-        at + 1
-    } else {
-        at
+    if out.len() == 0 {
+        return 0;
     }
+    out[0] = a;
+    1
 }
 
 // Whether a number stays behind the one before it, if any.
@@ -94,16 +93,16 @@ fn count_runs(numbers: &[u32], dedup: bool) -> usize
     n
 }
 
-fn write_runs(numbers: &[u32], dedup: bool, out: &mut [u32], at: usize) -> usize
-    ensures { Written (runs dedup numbers.now) out.old at out.new result }
+fn write_runs(numbers: &[u32], dedup: bool, out: &mut [u32]) -> usize
+    ensures { Written (runs dedup numbers.now) out.old 0 out.new result }
 {
     let mut previous = None;
-    let mut place = at;
+    let mut place = 0;
     for number in numbers {
         let kept = stays(dedup, previous, *number);
         previous = Some(*number);
         if kept {
-            place = write_number(*number, out, place);
+            place += write_number(*number, &mut out[place..]);
         }
     }
     place
@@ -141,7 +140,7 @@ fn write_joined(path: AsPath, dedup: bool, out: &mut [u32]) -> usize
 {
     let mut place = 0;
     for segment in path.segments() {
-        place = write_runs(segment.numbers, dedup, out, place);
+        place += write_runs(segment.numbers, dedup, &mut out[place..]);
     }
     place
 }
@@ -170,20 +169,19 @@ pub fn to_u32_vec_opt(
 }
 
 // What route k takes from a segment.
-fn write_taken(segment: Segment, k: u64, out: &mut [u32], at: usize) -> usize
-    ensures { Written (taken (kind_number segment.entry.kind) segment.entry.numbers.now k) out.old at out.new result }
+fn write_taken(segment: Segment, k: u64, out: &mut [u32]) -> usize
+    ensures { Written (taken (kind_number segment.entry.kind) segment.entry.numbers.now k) out.old 0 out.new result }
 {
-    let numbers = segment.numbers;
     match segment.kind {
-        SegmentKind::AsSequence => write_runs(numbers, false, out, at),
+        SegmentKind::AsSequence => write_runs(segment.numbers, false, out),
         SegmentKind::AsSet => {
-            if numbers.len() == 0 {
-                return write_number(0, out, at);
+            if segment.numbers.len() == 0 {
+                return write_number(0, out);
             }
-            let j = k % (numbers.len() as u64);
-            write_number(numbers[j as usize], out, at)
+            let j = k % (segment.numbers.len() as u64);
+            write_number(segment.numbers[j as usize], out)
         }
-        SegmentKind::ConfedSequence | SegmentKind::ConfedSet => at,
+        SegmentKind::ConfedSequence | SegmentKind::ConfedSet => 0,
     }
 }
 
@@ -204,7 +202,7 @@ fn write_route(path: AsPath, number: u64, out: &mut [u32]) -> usize
     let mut place = 0;
     let mut k = number;
     for segment in path.segments() {
-        place = write_taken(segment, k, out, place);
+        place += write_taken(segment, k, &mut out[place..]);
         k = left_of(segment, k);
     }
     place

@@ -1,142 +1,83 @@
 -- Whether words spell a state, and the state that they spell then: one law for each way through the code. Assumes nothing.
 use Rattle.std.specs.Prelude.{is_some, Option, Some, None}
 use mathlib.Core.Path.{◌≡◌, refl, sym, ap, ◌∙◌}
-use mathlib.Core.Bool.{Bool, true, false, not, cond, ◌&&◌, ◌||◌, and-true, and-false}
+use mathlib.Core.Bool.{Bool, true, false, cond, ◌&&◌}
 use mathlib.Core.List.{List}
-use Prim.Native.Nat.{ℕ, ◌≤◌}
+use Prim.Native.Nat.{ℕ, ◌≤◌, ◌<◌}
 use native.Mathlib.Omega.{arith}
 use lib.ListN.{get_or}
 use lib.Dec.{eqb, leb}
 use lib.Ieee.{Float, binary64, of_bits}
-use borrow.Author.Tests.{leb-true, not-true, eq-eqb, ne_eqb, le-leb}
+use borrow.Author.Tests.{leb-true, eq-eqb, ne_eqb, le-leb, lt-leb}
 use Rattle.network.specs.declared.IpAddr.{IpAddr}
 use Rattle.network.specs.declared.IpAddr.TheVariants.{V4, V6}
 use Rattle.seconds.specs.Seconds.{is_timestamp, timestamp_of_bits}
 use Rattle.text_dump.specs.declared.Remembered.{Remembered}
 use Rattle.text_dump.specs.declared.Remembered.TheVariants.{Nothing, Invalid, Valid}
 use Rattle.text_dump.specs.declared.State.{State}
-use Rattle.codec.specs.Spelling.{address_of, with_length, prefix_of, as_valid, remembered_of, with_remembered, with_peer, state_but_time, state_of}
-
-and_left : (a b : Bool) → (a && b) ≡ true → a ≡ true
-and_left true b h = refl
-and_left false b h = h
-
-and_right : (a b : Bool) → (a && b) ≡ true → b ≡ true
-and_right true b h = h
-and_right false b h = let z : ◌≡◌ {A = ℕ} 0 1 = cc in absurd (omega arith)
-
--- a choice of two, and none else
-one_of : {A : Type 0} (a b : Bool) (x y : A) → (a || b) ≡ is_some (cond a (Some x) (cond b (Some y) None))
-one_of true b x y = refl
-one_of false true x y = refl
-one_of false false x y = refl
+use Rattle.codec.specs.Spelling.{address_of, prefix_of, remembered_of, with_remembered, with_peer, state_but_time, state_of}
 
 -- an address
 module _ (k u l : ℕ) where
   abbrev v4 : Bool
   v4 = eqb k 0 && eqb u 0 && leb l 4294967295
 
-  pub address_tested : (eqb k 1 || v4) ≡ is_some (address_of k u l)
-  unfolding address_of
-  address_tested = one_of (eqb k 1) v4 (V6 u l) (V4 l)
-
-  pub v6_told : k ≡ 1 → address_of k u l ≡ Some (V6 u l)
+  pub v6_told : k ≡ 1 → Some (V6 u l) ≡ address_of k u l
   unfolding address_of
   v6_told h = simp (eq-eqb k 1 h)
 
-  module _ (other : k ≡ 1 → ⊥) (spelt : is_some (address_of k u l) ≡ true) where
-    is_v4 : v4 ≡ true
-    is_v4 = ap (λ (b : Bool). b || v4) (sym (ne_eqb k 1 other)) ∙ address_tested ∙ spelt
+  pub v4_fits : v4 ≡ true → l ≤ 4294967295
+  v4_fits h = leb-true l 4294967295 (and_right (eqb k 0 && eqb u 0) (leb l 4294967295) h)
+    where
+      and_right : (a b : Bool) → (a && b) ≡ true → b ≡ true
+      and_right true b h = h
+      and_right false b h = let z : ◌≡◌ {A = ℕ} 0 1 = cc in absurd (omega arith)
 
-    pub v4_fits : l ≤ 4294967295
-    v4_fits = leb-true l 4294967295 (and_right (eqb k 0 && eqb u 0) (leb l 4294967295) is_v4)
-
-    pub v4_told : address_of k u l ≡ Some (V4 l)
+  module _ (other : k ≡ 1 → ⊥) where
+    pub v4_told : v4 ≡ true → Some (V4 l) ≡ address_of k u l
     unfolding address_of
-    v4_told = rw (ne_eqb k 1 other, is_v4)
+    v4_told h = rw (ne_eqb k 1 other, h)
+
+    pub no_address : v4 ≡ false → None ≡ address_of k u l
+    unfolding address_of
+    no_address h = rw (ne_eqb k 1 other, h)
 
 -- the remembered prefix
 module _ (m k u l n : ℕ) where
   abbrev unused : Bool
   unused = eqb k 0 && eqb u 0 && eqb l 0 && eqb n 0
 
-  in_length : (o : Option IpAddr) → (is_some o && leb n 255) ≡ is_some (as_valid (with_length n o))
-  in_length (Some a) = go (leb n 255)
-    where
-      go : (b : Bool) → b ≡ is_some (as_valid (cond b (Some (record { addr = a; len = n })) None))
-      go true = refl
-      go false = refl
-  in_length None = refl
+  module _ (two : m ≡ 2) (r : Option IpAddr) (is : r ≡ address_of k u l) where
+    pub no_prefix : r ≡ None → None ≡ remembered_of m k u l n
+    unfolding remembered_of prefix_of
+    no_prefix h = rw (eq-eqb m 2 two, ← is, h)
 
-  pub valid_tested : m ≡ 2 → (r : Bool) → r ≡ is_some (address_of k u l) → (r && leb n 255) ≡ is_some (remembered_of m k u l n)
-  unfolding remembered_of prefix_of
-  valid_tested h r e = rw (eq-eqb m 2 h, e) (in_length (address_of k u l))
-
-  nothing_else : (a b c : Bool) → (a && (b || c)) ≡ is_some (cond a (cond b (Some Nothing) (cond c (Some Invalid) None)) None)
-  nothing_else true b c = one_of b c Nothing Invalid
-  nothing_else false b c = refl
-
-  pub other_tested : (m ≡ 2 → ⊥) → (unused && (eqb m 0 || eqb m 1)) ≡ is_some (remembered_of m k u l n)
-  unfolding remembered_of
-  other_tested h = rw (ne_eqb m 2 h) (nothing_else unused (eqb m 0) (eqb m 1))
-
-  module _ (spelt : is_some (remembered_of m k u l n) ≡ true) where
-    module _ (two : m ≡ 2) where
-      is_prefix : (is_some (address_of k u l) && leb n 255) ≡ true
-      is_prefix = valid_tested two (is_some (address_of k u l)) refl ∙ spelt
-
-      pub its_address : is_some (address_of k u l) ≡ true
-      its_address = and_left (is_some (address_of k u l)) (leb n 255) is_prefix
-
-      pub its_length : n ≤ 255
-      its_length = leb-true n 255 (and_right (is_some (address_of k u l)) (leb n 255) is_prefix)
-
-      pub valid_told : (a : IpAddr) → address_of k u l ≡ Some a → remembered_of m k u l n ≡ Some (Valid (record { addr = a; len = n }))
+    module _ (a : IpAddr) (h : r ≡ Some a) where
+      pub too_long : 255 < n → None ≡ remembered_of m k u l n
       unfolding remembered_of prefix_of
-      valid_told a e = rw (eq-eqb m 2 two, e, le-leb n 255 its_length)
+      too_long long = rw (eq-eqb m 2 two, ← is, h, lt-leb n 255 long)
 
-    module _ (other : m ≡ 2 → ⊥) where
-      is_other : (unused && (eqb m 0 || eqb m 1)) ≡ true
-      is_other = other_tested other ∙ spelt
+      pub valid_told : n ≤ 255 → Some (Valid (record { addr = a; len = n })) ≡ remembered_of m k u l n
+      unfolding remembered_of prefix_of
+      valid_told short = rw (eq-eqb m 2 two, ← is, h, le-leb n 255 short)
 
-      past : remembered_of m k u l n ≡ cond (eqb m 0) (Some Nothing) (cond (eqb m 1) (Some Invalid) None)
+  module _ (other : m ≡ 2 → ⊥) where
+    pub in_use : unused ≡ false → None ≡ remembered_of m k u l n
+    unfolding remembered_of
+    in_use h = rw (ne_eqb m 2 other, h)
+
+    module _ (h : unused ≡ true) where
+      pub nothing_told : m ≡ 0 → Some Nothing ≡ remembered_of m k u l n
       unfolding remembered_of
-      past = rw (ne_eqb m 2 other, and_left unused (eqb m 0 || eqb m 1) is_other)
+      nothing_told e = rw (ne_eqb m 2 other, h, eq-eqb m 0 e)
 
-      pub invalid_told : m ≡ 1 → remembered_of m k u l n ≡ Some Invalid
-      invalid_told h = past ∙ rw h
+      pub invalid_told : m ≡ 1 → Some Invalid ≡ remembered_of m k u l n
+      unfolding remembered_of
+      invalid_told e = rw (ne_eqb m 2 other, h, e)
 
-      pub nothing_told : (m ≡ 1 → ⊥) → remembered_of m k u l n ≡ Some Nothing
-      nothing_told h =
-          past ∙ go (eqb m 0) (sym (and_right unused (eqb m 0 || eqb m 1) is_other) ∙ ap (λ (b : Bool). eqb m 0 || b) (ne_eqb m 1 h))
-        where
-          go : (b : Bool) → true ≡ (b || false) → cond b (Some Nothing) (cond (eqb m 1) (Some Invalid) None) ≡ Some Nothing
-          go true e = refl
-          go false e = let z : ◌≡◌ {A = ℕ} 0 1 = cc in absurd (omega arith)
-
--- the timestamp
-module _ (bits : ℕ) where
-  abbrev float : Float
-  float = of_bits binary64 bits
-
-  timed : (b : Bool) → is_timestamp float ≡ b → timestamp_of_bits bits ≡ cond b (Some float) None
-  unfolding timestamp_of_bits
-  timed b e = rw e
-
-  module _ (r : Option Float) (is : r ≡ timestamp_of_bits bits) where
-    pub a_timestamp : (t : Float) → r ≡ Some t → true ≡ is_timestamp float
-    a_timestamp t e = go (is_timestamp float) refl
-      where
-        go : (b : Bool) → is_timestamp float ≡ b → true ≡ b
-        go true f = refl
-        go false f = let z : ◌≡◌ {A = ℕ} 0 1 = cc (timed false f) in absurd (omega arith)
-
-    pub no_timestamp : r ≡ None → false ≡ is_timestamp float
-    no_timestamp e = go (is_timestamp float) refl
-      where
-        go : (b : Bool) → is_timestamp float ≡ b → false ≡ b
-        go true f = let z : ◌≡◌ {A = ℕ} 0 1 = cc (timed true f) in absurd (omega arith)
-        go false f = refl
+      pub no_kind : (m ≡ 0 → ⊥) → (m ≡ 1 → ⊥) → None ≡ remembered_of m k u l n
+      unfolding remembered_of
+      no_kind d e = rw (ne_eqb m 2 other, h, ne_eqb m 0 d, ne_eqb m 1 e)
 
 -- a state
 abbrev pub if_timed : Option State → Option State
@@ -153,63 +94,34 @@ module _ (w : List ℕ) where
   abbrev memory : Option Remembered
   memory = remembered_of (get_or w 10 0) (get_or w 11 0) (get_or w 12 0) (get_or w 13 0) (get_or w 14 0)
 
-  abbrev small : Bool
-  small = leb (get_or w 8 0) 4294967295
+  module _ (r : Option IpAddr) (is : r ≡ peer) where
+    pub no_peer : r ≡ None → None ≡ state_but_time w
+    unfolding state_but_time
+    no_peer h = rw (← is, h)
 
-  by_memory : (a : IpAddr) (m : Option Remembered) → is_some m ≡ is_some (with_remembered w a at m)
-  by_memory a (Some m) = refl
-  by_memory a None = refl
-
-  by_asn : (a : IpAddr) (b : Bool) → (b && is_some memory) ≡ is_some (cond b (with_remembered w a at memory) None)
-  by_asn a true = by_memory a memory
-  by_asn a false = refl
-
-  by_peer : (o : Option IpAddr) → (is_some o && small && is_some memory) ≡ is_some (with_peer w o)
-  by_peer (Some a) = by_asn a small
-  by_peer None = refl
-
-  but_time_tested : (is_some peer && small && is_some memory) ≡ is_some (state_but_time w)
-  unfolding state_but_time
-  but_time_tested = by_peer peer
-
-  by_time : (b : Bool) → (is_some peer && small && b && is_some memory) ≡ is_some (cond b (state_but_time w) None)
-  by_time true = ap (λ (a : Bool). a && is_some memory) (and-true (is_some peer && small)) ∙ but_time_tested
-  by_time false = ap (λ (a : Bool). a && is_some memory) (and-false (is_some peer && small))
-
-  pub state_tested : (p t m : Bool) → p ≡ is_some peer → t ≡ is_timestamp at → m ≡ is_some memory → (p && small && t && m) ≡ is_some (state_of w)
-  unfolding state_of
-  state_tested p t m ep et em = rw (ep, et, em) (by_time (is_timestamp at))
-
-  module _ (p m : Bool) (ep : p ≡ is_some peer) (em : m ≡ is_some memory) where
-    tested : (p && small && m) ≡ is_some (state_but_time w)
-    tested = rw (ep, em) but_time_tested
-
-    pub no_state_told : not (p && small && m) ≡ true → None ≡ state_but_time w
-    no_state_told h = go (state_but_time w) (sym tested ∙ not-true (p && small && m) h)
-      where
-        go : (o : Option State) → is_some o ≡ false → None ≡ o
-        go (Some σ) e = let z : ◌≡◌ {A = ℕ} 0 1 = cc in absurd (omega arith)
-        go None e = refl
-
-    module _ (all : (p && small && m) ≡ true) where
-      but_memory : (p && small) ≡ true
-      but_memory = and_left (p && small) m all
-
-      pub its_peer : is_some peer ≡ true
-      its_peer = sym ep ∙ and_left p small but_memory
-
-      is_small : small ≡ true
-      is_small = and_right p small but_memory
-
-      pub its_asn : get_or w 8 0 ≤ 4294967295
-      its_asn = leb-true (get_or w 8 0) 4294967295 is_small
-
-      pub its_memory : is_some memory ≡ true
-      its_memory = sym em ∙ and_right (p && small) m all
-
-      pub state_told : (a : IpAddr) → peer ≡ Some a → (t : Float) → t ≡ at → (x : Remembered) → memory ≡ Some x → (with_remembered w a t (Some x)) ≡ state_but_time w
+    module _ (a : IpAddr) (h : r ≡ Some a) where
+      pub no_asn : 4294967295 < get_or w 8 0 → None ≡ state_but_time w
       unfolding state_but_time
-      state_told a ea t et x ex = rw (ea, is_small, et, ex)
+      no_asn large = rw (← is, h, lt-leb (get_or w 8 0) 4294967295 large)
+
+      module _ (fits : get_or w 8 0 ≤ 4294967295) (t : Float) (time : t ≡ at) (m : Option Remembered) (told : m ≡ memory) where
+        pub no_memory : m ≡ None → None ≡ state_but_time w
+        unfolding state_but_time
+        no_memory e = rw (← is, h, le-leb (get_or w 8 0) 4294967295 fits, ← told, e)
+
+        pub state_told : (x : Remembered) → m ≡ Some x → with_remembered w a t (Some x) ≡ state_but_time w
+        unfolding state_but_time
+        state_told x e = rw (← is, h, le-leb (get_or w 8 0) 4294967295 fits, ← told, e, time)
+
+  -- the timestamp is tested beside the rest
+  pub state_tested : (t : Option Float) → t ≡ timestamp_of_bits (get_or w 9 0) → (o : Option State) → o ≡ state_but_time w
+      → (p q : Bool) → p ≡ is_some t → q ≡ is_some o → (p && q) ≡ is_some (state_of w)
+  unfolding state_of timestamp_of_bits
+  state_tested t et o eo p q ep eq = rw (ep, eq, et, eo) (go (is_timestamp at))
+    where
+      go : (b : Bool) → (is_some (cond b (Some at) None) && is_some (state_but_time w)) ≡ is_some (cond b (state_but_time w) None)
+      go true = refl
+      go false = refl
 
   -- the timestamp of a state but for its time, and what its test leaves
   abbrev time_of : Option State → Float
@@ -229,7 +141,7 @@ module _ (w : List ℕ) where
       tests a false = refl
 
       go : (o : Option IpAddr) → time_of (with_peer w o) ≡ at
-      go (Some a) = tests a small
+      go (Some a) = tests a (leb (get_or w 8 0) 4294967295)
       go None = refl
 
   pub if_timed_lem : (o : Option State) → state_but_time w ≡ o → state_of w ≡ if_timed o

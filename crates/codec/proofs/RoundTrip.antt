@@ -1,5 +1,5 @@
 -- A state's words spell it, and words that spell a state are its words: a state has one spelling. An element's words hold it. Assumes nothing.
-use Rattle.std.specs.Prelude.{ℕ, Option, Some, None}
+use Rattle.std.specs.Prelude.{ℕ, Option, Some, None, unwrap_or}
 use mathlib.Core.Path.{◌≡◌, refl, ap, ◌∙◌}
 use mathlib.Core.Bool.{Bool, true, false, cond}
 use lib.Dec.{T, eqb}
@@ -16,7 +16,7 @@ use Rattle.elem.specs.declared.Element.{Element}
 use Rattle.text_dump.specs.declared.Remembered.{Remembered}
 use Rattle.text_dump.specs.declared.Remembered.TheVariants.{Nothing, Invalid, Valid}
 use Rattle.text_dump.specs.declared.State.{State}
-use Rattle.codec.specs.Words.{address_words, remembered_words, asn_words, origin_words, number_words, state_words, element_words}
+use Rattle.codec.specs.Words.{address_words, remembered_words, known, asn_number, origin_number, state_words, element_words}
 use Rattle.codec.specs.Spelling.{address_of, prefix_of, remembered_of, with_peer, with_remembered, state_but_time, state_of, FitsAddress, FitsRemembered, Fits}
 use Rattle.codec.specs.Element.{address_in, asn_in, number_in, origin_in, element_in}
 
@@ -45,15 +45,15 @@ address_held : (a : IpAddr) → address_in (address_words a).kind (address_words
 address_held (V4 n) = refl
 address_held (V6 u l) = refl
 
-asn_held : (a : Option Asn) → asn_in (asn_words a).known (asn_words a).value ≡ a
+asn_held : (a : Option Asn) → asn_in (known (asn_number a)) (unwrap_or (asn_number a) 0) ≡ a
 asn_held (Some a) = refl
 asn_held None = refl
 
-number_held : (n : Option ℕ) → number_in (number_words n).known (number_words n).value ≡ n
+number_held : (n : Option ℕ) → number_in (known n) (unwrap_or n 0) ≡ n
 number_held (Some n) = refl
 number_held None = refl
 
-origin_held : (o : Option Origin) → origin_in (origin_words o).known (origin_words o).value ≡ o
+origin_held : (o : Option Origin) → origin_in (known (origin_number o)) (unwrap_or (origin_number o) 0) ≡ o
 origin_held (Some IGP) = refl
 origin_held (Some EGP) = refl
 origin_held (Some INCOMPLETE) = refl

@@ -16,10 +16,10 @@ use Rattle.text_dump.specs.State.{moved, turned}
 use Rattle.text_dump.specs.declared.Remembered.{Remembered}
 use Rattle.text_dump.specs.declared.State.{State}
 use Rattle.text_dump.proofs.StateLaws.{stored_plain}
-use Rattle.codec.specs.Words.{address_words, remembered_words, asn_words, origin_words, number_words, cursor_with, cursor_words, state_with, state_words, element_with, element_words}
+use Rattle.codec.specs.Words.{address_words, remembered_words, asn_number, origin_number, cursor_with, cursor_words, state_with, state_words, element_with, element_words}
 use Rattle.codec.specs.declared.AddressWords.{AddressWords}
 use Rattle.codec.specs.declared.RememberedWords.{RememberedWords}
-use Rattle.codec.specs.declared.OptWords.{OptWords}
+use Rattle.std.specs.Prelude.{Option}
 
 -- only a NaN is not equal to itself
 pub a_number : (t : Float) → eq t t ≡ true → T (not (is_nan t))
@@ -54,9 +54,9 @@ pub cursor_written : (m : Remembered) (r : RememberedWords) (position : ℕ) →
 unfolding cursor_words
 cursor_written m r position e = rw e
 
-pub element_written : (e : Element) (time : ℕ) (peer prefix hop : AddressWords) (asn origin pref med : OptWords)
+pub element_written : (e : Element) (time : ℕ) (peer prefix hop : AddressWords) (asn origin pref med : Option ℕ)
     → time ≡ to_bits binary64 e.timestamp → peer ≡ address_words e.peer_ip → prefix ≡ address_words e.prefix.addr → hop ≡ address_words e.next_hop
-    → asn ≡ asn_words e.origin_asn → origin ≡ origin_words e.origin → pref ≡ number_words e.local_pref → med ≡ number_words e.metric
+    → asn ≡ asn_number e.origin_asn → origin ≡ origin_number e.origin → pref ≡ e.local_pref → med ≡ e.metric
     → element_with e (bool_byte e.announce) time peer prefix hop asn origin pref med ≡ element_words e
 unfolding element_words
 element_written e time peer prefix hop asn origin pref med t p q h a o l m = rw (bool_word e.announce, t, p, q, h, a, o, l, m)

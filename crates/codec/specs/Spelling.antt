@@ -1,5 +1,5 @@
 -- The state that sixteen words spell, field by field (docs/LAYOUT.md); none where a slot holds no value of its field.
-use Rattle.std.specs.Prelude.{ℕ, ◌≤◌, Bool, true, false, cond, ◌&&◌, List, get_or, T, eqb, leb, Float, Option, Some, None}
+use Rattle.std.specs.Prelude.{ℕ, ◌≤◌, cond, ◌&&◌, List, get_or, T, eqb, leb, Float, Option, Some, None}
 use Rattle.std.specs.Float.{binary64}
 use Rattle.std.specs.Float.Ieee.{fits, of_bits}
 use Rattle.network.specs.declared.IpAddr.{IpAddr}

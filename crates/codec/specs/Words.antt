@@ -1,5 +1,5 @@
 -- The slots of a state and of an element, in the order of docs/LAYOUT.md.
-use Rattle.std.specs.Prelude.{ℕ, cond, List, [], ◌∷◌, Option, Some, None}
+use Rattle.std.specs.Prelude.{ℕ, cond, is_some, unwrap_or, List, [], ◌∷◌, Option, Some, None}
 use Rattle.std.specs.Float.{binary64}
 use Rattle.std.specs.Float.Ieee.{to_bits}
 use Rattle.network.specs.declared.IpAddr.{IpAddr}
@@ -13,7 +13,6 @@ use Rattle.text_dump.specs.declared.Remembered.TheVariants.{Nothing, Invalid, Va
 use Rattle.text_dump.specs.declared.State.{State}
 use Rattle.codec.specs.declared.AddressWords.{AddressWords}
 use Rattle.codec.specs.declared.RememberedWords.{RememberedWords}
-use Rattle.codec.specs.declared.OptWords.{OptWords}
 
 -- an address: 0 for IPv4 and 1 for IPv6, then its halves
 abbrev pub address_words : IpAddr → AddressWords
@@ -29,27 +28,23 @@ remembered_words Nothing = record { kind = 0; addr = unused; len = 0 }
 remembered_words Invalid = record { kind = 1; addr = unused; len = 0 }
 remembered_words (Valid p) = record { kind = 2; addr = address_words p.addr; len = p.len }
 
--- what may be missing: 1 and its value, or 0 and 0
-abbrev pub known : ℕ → OptWords
-known v = record { known = 1; value = v }
+-- what may be missing: 1 and its number, or 0 and 0
+abbrev pub known : Option ℕ → ℕ
+known n = cond (is_some n) 1 0
 
-abbrev pub missing : OptWords
-missing = record { known = 0; value = 0 }
+abbrev pub asn_number : Option Asn → Option ℕ
+asn_number (Some a) = Some a.0
+asn_number None = None
 
-abbrev pub asn_words : Option Asn → OptWords
-asn_words (Some a) = known a.0
-asn_words None = missing
+-- RFC 4271, 4.3
+abbrev pub number_of : Origin → ℕ
+number_of IGP = 0
+number_of EGP = 1
+number_of INCOMPLETE = 2
 
-abbrev pub number_words : Option ℕ → OptWords
-number_words (Some n) = known n
-number_words None = missing
-
--- RFC 4271, 4.3: 0 IGP, 1 EGP, 2 INCOMPLETE
-abbrev pub origin_words : Option Origin → OptWords
-origin_words (Some IGP) = known 0
-origin_words (Some EGP) = known 1
-origin_words (Some INCOMPLETE) = known 2
-origin_words None = missing
+abbrev pub origin_number : Option Origin → Option ℕ
+origin_number (Some o) = Some (number_of o)
+origin_number None = None
 
 -- where a state stands: what it remembers, and its position
 abbrev pub cursor_with : RememberedWords → ℕ → List ℕ
@@ -71,7 +66,7 @@ unfoldable pub state_words : State → List ℕ
 state_words σ = state_with σ (address_words σ.peer_ip) (to_bits binary64 σ.timestamp) (remembered_words σ.remembered)
 
 -- an element, with the words of whether it announces, its timestamp, its addresses and what may be missing
-abbrev pub element_with : Element → ℕ → ℕ → AddressWords → AddressWords → AddressWords → OptWords → OptWords → OptWords → OptWords → List ℕ
+abbrev pub element_with : Element → ℕ → ℕ → AddressWords → AddressWords → AddressWords → Option ℕ → Option ℕ → Option ℕ → Option ℕ → List ℕ
 element_with e announce time peer prefix hop asn origin pref med =
     announce
     ∷ time
@@ -80,12 +75,12 @@ element_with e announce time peer prefix hop asn origin pref med =
     ∷ prefix.kind ∷ prefix.upper ∷ prefix.lower ∷ e.prefix.len
     ∷ hop.kind ∷ hop.upper ∷ hop.lower
     ∷ e.count
-    ∷ asn.known ∷ asn.value
-    ∷ origin.known ∷ origin.value
-    ∷ pref.known ∷ pref.value
-    ∷ med.known ∷ med.value ∷ []
+    ∷ known asn ∷ unwrap_or asn 0
+    ∷ known origin ∷ unwrap_or origin 0
+    ∷ known pref ∷ unwrap_or pref 0
+    ∷ known med ∷ unwrap_or med 0 ∷ []
 
 unfoldable pub element_words : Element → List ℕ
 element_words e =
     element_with e (cond e.announce 1 0) (to_bits binary64 e.timestamp) (address_words e.peer_ip) (address_words e.prefix.addr) (address_words e.next_hop)
-    (asn_words e.origin_asn) (origin_words e.origin) (number_words e.local_pref) (number_words e.metric)
+    (asn_number e.origin_asn) (origin_number e.origin) e.local_pref e.metric

@@ -1,11 +1,10 @@
 // The reading state and the element as words of 64 bits, a slot for each field (docs/LAYOUT.md).
 #![tactic(auto)]
 
-ghost use Rattle.std.specs.Prelude.{is_some, ◌≡◌, true};
+ghost use Rattle.std.specs.Prelude.{is_some, ◌≡◌};
 ghost use Rattle.std.specs.Float.{binary64};
 ghost use Rattle.std.specs.Float.Ieee.{to_bits, of_bits};
-ghost use Rattle.seconds.specs.Seconds.{is_timestamp};
-ghost use Rattle.codec.specs.Words.{address_words, remembered_words, asn_words, origin_words, number_words, state_words, cursor_words, element_words};
+ghost use Rattle.codec.specs.Words.{address_words, remembered_words, known, asn_number, number_of, origin_number, state_words, cursor_words, element_words};
 ghost use Rattle.codec.specs.Spelling.{address_of, remembered_of, state_but_time, state_of};
 
 use columns::Columns;
@@ -13,6 +12,8 @@ use elem::{Element, Origin};
 use network::{Asn, IpAddr, NetworkPrefix};
 use text_dump::{Remembered, State};
 
+// Stays a number, the kind of an address and of what is remembered: the C interface has no enums of
+// ours (docs/LAYOUT.md).
 #[derive(Clone, Copy)]
 struct AddressWords {
     kind: u64,
@@ -25,13 +26,6 @@ struct RememberedWords {
     kind: u64,
     addr: AddressWords,
     len: u64,
-}
-
-// What may be missing: 1 and its value, or 0 and 0.
-#[derive(Clone, Copy)]
-struct OptWords {
-    known: u64,
-    value: u64,
 }
 
 fn address_words(addr: IpAddr) -> AddressWords
@@ -79,36 +73,41 @@ fn remembered_words(m: Remembered) -> RememberedWords
     }
 }
 
-fn opt_words(value: Option<u64>) -> OptWords
-    ensures { result ≡ number_words value }
+// The first word of what may be missing; the second is the number itself, or 0.
+#[tactic(auto, unfolding(crate::specs::Words::known))]
+fn known(n: Option<u64>) -> u64
+    ensures { result ≡ known n }
 {
-    match value {
-        Some(value) => OptWords { known: 1, value },
-        None => OptWords { known: 0, value: 0 },
+    u64::from(n.is_some())
+}
+
+fn asn_number(asn: Option<Asn>) -> Option<u64>
+    ensures { result ≡ asn_number asn }
+{
+    asn.map(|a| u64::from(a.0))
+}
+
+// Apart from whether there is one, so that no branch is made of it: none would guess which comes.
+fn number_of(origin: Origin) -> u64
+    ensures { result ≡ number_of origin }
+{
+    match origin {
+        Origin::IGP => 0,
+        Origin::EGP => 1,
+        Origin::INCOMPLETE => 2,
     }
 }
 
-fn asn_words(asn: Option<Asn>) -> OptWords
-    ensures { result ≡ asn_words asn }
+fn origin_number(o: Option<Origin>) -> Option<u64>
+    ensures { result ≡ origin_number o }
 {
-    opt_words(asn.map(|a| u64::from(a.0)))
+    o.map(|origin| number_of(origin))
 }
 
-fn number_words(n: Option<u32>) -> OptWords
-    ensures { result ≡ number_words n }
+fn widened(n: Option<u32>) -> Option<u64>
+    ensures { result ≡ n }
 {
-    opt_words(n.map(u64::from))
-}
-
-fn origin_words(o: Option<Origin>) -> OptWords
-    ensures { result ≡ origin_words o }
-{
-    match o {
-        Some(Origin::IGP) => opt_words(Some(0)),
-        Some(Origin::EGP) => opt_words(Some(1)),
-        Some(Origin::INCOMPLETE) => opt_words(Some(2)),
-        None => opt_words(None),
-    }
+    n.map(u64::from)
 }
 
 // The bits of a NaN are not determined, so they are written here.
@@ -171,10 +170,10 @@ pub fn element_words(e: Element) -> [u64; 22]
     let peer = address_words(e.peer_ip);
     let prefix = address_words(e.prefix.addr);
     let hop = address_words(e.next_hop);
-    let origin_as = asn_words(e.origin_asn);
-    let by = origin_words(e.origin);
-    let pref = number_words(e.local_pref);
-    let med = number_words(e.metric);
+    let origin_as = asn_number(e.origin_asn);
+    let by = origin_number(e.origin);
+    let pref = widened(e.local_pref);
+    let med = widened(e.metric);
     [
         e.announce as u64,
         bits,
@@ -190,74 +189,52 @@ pub fn element_words(e: Element) -> [u64; 22]
         hop.upper,
         hop.lower,
         e.count as u64,
-        origin_as.known,
-        origin_as.value,
-        by.known,
-        by.value,
-        pref.known,
-        pref.value,
-        med.known,
-        med.value,
+        known(origin_as),
+        origin_as.unwrap_or(0),
+        known(by),
+        by.unwrap_or(0),
+        known(pref),
+        pref.unwrap_or(0),
+        known(med),
+        med.unwrap_or(0),
     ]
 }
 
-fn is_address(kind: u64, upper: u64, lower: u64) -> bool
-    ensures { result ≡ is_some (address_of kind upper lower) }
-{
-    (kind == 1) | ((kind == 0) & (upper == 0) & (lower <= 0xffff_ffff))
-}
-
-fn are_timestamp_bits(bits: u64) -> bool
-    ensures { result ≡ is_timestamp (of_bits binary64 bits) }
-{
-    matches!(seconds::timestamp_of_bits(bits), Some(_))
-}
-
-fn is_remembered(remembered: u64, kind: u64, upper: u64, lower: u64, len: u64) -> bool
-    ensures { result ≡ is_some (remembered_of remembered kind upper lower len) }
-{
-    if remembered == 2 {
-        return is_address(kind, upper, lower) & (len <= 255);
-    }
-    (kind == 0) & (upper == 0) & (lower == 0) & (len == 0) & ((remembered == 0) | (remembered == 1))
-}
-
-// Whether the words spell a state.
-pub fn is_state(w: &[u64; 16]) -> bool
-    ensures { result ≡ is_some (state_of w.now) }
-{
-    is_address(w[5], w[6], w[7])
-        & (w[8] <= 0xffff_ffff)
-        & are_timestamp_bits(w[9])
-        & is_remembered(w[10], w[11], w[12], w[13], w[14])
-}
-
-// This conversion and the next test nothing again.
-fn address_of(kind: u64, upper: u64, lower: u64) -> IpAddr
-    requires { is_some (address_of kind upper lower) ≡ true }
-    ensures { address_of kind upper lower ≡ Some result }
+#[tactic(auto, using(crate::proofs::Reading::v6_told, crate::proofs::Reading::v4_fits, crate::proofs::Reading::v4_told, crate::proofs::Reading::no_address))]
+fn address_of(kind: u64, upper: u64, lower: u64) -> Option<IpAddr>
+    ensures { result ≡ address_of kind upper lower }
 {
     if kind == 1 {
-        return IpAddr::V6(upper, lower);
+        return Some(IpAddr::V6(upper, lower));
     }
-    IpAddr::V4(lower as u32)
+    if (kind == 0) & (upper == 0) & (lower <= 0xffff_ffff) {
+        return Some(IpAddr::V4(lower as u32));
+    }
+    None
 }
 
-fn remembered_of(remembered: u64, kind: u64, upper: u64, lower: u64, len: u64) -> Remembered
-    requires { is_some (remembered_of remembered kind upper lower len) ≡ true }
-    ensures { remembered_of remembered kind upper lower len ≡ Some result }
+#[tactic(auto, using(crate::proofs::Reading::no_prefix, crate::proofs::Reading::too_long, crate::proofs::Reading::valid_told, crate::proofs::Reading::in_use, crate::proofs::Reading::nothing_told, crate::proofs::Reading::invalid_told, crate::proofs::Reading::no_kind))]
+fn remembered_of(remembered: u64, kind: u64, upper: u64, lower: u64, len: u64) -> Option<Remembered>
+    ensures { result ≡ remembered_of remembered kind upper lower len }
 {
     if remembered == 2 {
-        let addr = address_of(kind, upper, lower);
-        return Remembered::Valid(NetworkPrefix {
+        let addr = address_of(kind, upper, lower)?;
+        if 255 < len {
+            return None;
+        }
+        return Some(Remembered::Valid(NetworkPrefix {
             addr,
             len: len as u8,
-        });
+        }));
     }
-    if remembered == 1 {
-        return Remembered::Invalid;
+    if !((kind == 0) & (upper == 0) & (lower == 0) & (len == 0)) {
+        return None;
     }
-    Remembered::Nothing
+    match remembered {
+        0 => Some(Remembered::Nothing),
+        1 => Some(Remembered::Invalid),
+        _ => None,
+    }
 }
 
 // The float of any bits. What becomes of a NaN's is not determined, so the NaN is made here.
@@ -270,17 +247,18 @@ fn float_of(bits: u64) -> f64
     f64::from_bits(bits)
 }
 
-// The state that the words spell with any bits as its timestamp; Nothing where they spell none. It is for next, which refuses what is no timestamp itself.
-pub fn state_but_time(w: [u64; 16]) -> Option<State>
-    ensures { result ≡ state_but_time w }
+// The state that the words spell with any bits as its timestamp; None where they spell none. It is
+// for next, which refuses what is no timestamp itself.
+#[tactic(auto, using(crate::proofs::Reading::no_peer, crate::proofs::Reading::no_asn, crate::proofs::Reading::no_memory, crate::proofs::Reading::state_told))]
+pub fn state_but_time(w: &[u64; 16]) -> Option<State>
+    ensures { result ≡ state_but_time w.now }
 {
-    let is_peer = is_address(w[5], w[6], w[7]) & (w[8] <= 0xffff_ffff);
-    if !(is_peer & is_remembered(w[10], w[11], w[12], w[13], w[14])) {
+    let peer_ip = address_of(w[5], w[6], w[7])?;
+    if 0xffff_ffff < w[8] {
         return None;
     }
-    let peer_ip = address_of(w[5], w[6], w[7]);
     let timestamp = float_of(w[9]);
-    let remembered = remembered_of(w[10], w[11], w[12], w[13], w[14]);
+    let remembered = remembered_of(w[10], w[11], w[12], w[13], w[14])?;
     let columns = Columns {
         next_hop: w[0] as usize,
         metric: w[1] as usize,
@@ -296,4 +274,12 @@ pub fn state_but_time(w: [u64; 16]) -> Option<State>
         remembered,
         position: w[15] as usize,
     })
+}
+
+// Whether the words spell a state.
+#[tactic(auto, using(crate::proofs::Reading::state_tested))]
+pub fn is_state(w: &[u64; 16]) -> bool
+    ensures { result ≡ is_some (state_of w.now) }
+{
+    seconds::timestamp_of_bits(w[9]).is_some() & state_but_time(w).is_some()
 }

@@ -35,14 +35,6 @@ use Rattle.collector.specs.Bytes.{state_bytes, element_bytes, state_in}
 use Rattle.collector.specs.Exports.{opens_in, open_left, turns_in, turn_left, Left, left, answers_in, next_in, next_left}
 use Rattle.collector.proofs.Kept.{moved_bytes, turned_bytes}
 
-some_state : (o : Option State) (σ : State) → Some σ ≡ o → o ≡ Some σ
-some_state (Some τ) σ h = cc
-some_state None σ h = let z : ◌≡◌ {A = ℕ} 0 1 = cc in absurd (omega arith)
-
-no_state : (o : Option State) → None ≡ o → o ≡ None
-no_state (Some τ) h = let z : ◌≡◌ {A = ℕ} 0 1 = cc in absurd (omega arith)
-no_state None h = refl
-
 -- fernweeks_open
 module _ (t : List ℕ) (time : Float) (s : List ℕ) where
   pub open_short : length s < 128 → (9, s) ≡ open_left t time s
@@ -122,7 +114,7 @@ module _ (s part a e : List ℕ) where
       spelt o h = if_timed_lem (words_in 16 s) o h
 
       pub next_no_state : r ≡ None → left 5 s a e ≡ next_left s part a e
-      next_no_state h = sym (ap (next_in s a e part) (spelt None (no_state (state_but_time (words_in 16 s)) (sym h ∙ is)))) ∙ past_short
+      next_no_state h = sym (ap (next_in s a e part) (spelt None (sym is ∙ h))) ∙ past_short
 
       module _ (σ : State) (here : r ≡ Some σ) (x : (State × Result (Option Element) NextError)) (new : List ℕ) (answers : Answers (next σ part (length a)) a x new) where
         -- a step, told
@@ -130,7 +122,7 @@ module _ (s part a e : List ℕ) where
         tells z = answers_in s a e z.0 z.1
 
         timed : state_in s ≡ cond (is_timestamp σ.timestamp) (Some σ) None
-        timed = spelt (Some σ) (some_state (state_but_time (words_in 16 s)) σ (sym here ∙ is))
+        timed = spelt (Some σ) (sym is ∙ here)
 
         -- next says 5 of a state whose timestamp is none
         past_next : tells (told x new) ≡ next_left s part a e

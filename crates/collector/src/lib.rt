@@ -25,21 +25,14 @@ const CURSOR: usize = 80;
 
 const POSITION: usize = 120;
 
-fn words_of(state: &[u8]) -> [u64; 16]
-    requires { 128 ≤ length state.now }
-    ensures { result ≡ words_in 16 state.now }
-{
-    let mut words = [0; 16];
-    little::get_words(state, &mut words);
-    words
-}
-
 #[tactic(auto, unfolding(crate::specs::Bytes::state_in))]
 fn holds_state(state: &[u8]) -> bool
     requires { 128 ≤ length state.now }
     ensures { result ≡ is_some (state_in state.now) }
 {
-    codec::is_state(&words_of(state))
+    let mut words = [0; 16];
+    little::get_words(state, &mut words);
+    codec::is_state(&words)
 }
 
 // With any bits as its timestamp: they are left to next, which refuses a state whose timestamp is none, as it refuses bytes that spell no state.
@@ -47,7 +40,9 @@ fn get_state(state: &[u8]) -> Option<State>
     requires { 128 ≤ length state.now }
     ensures { result ≡ state_but_time (words_in 16 state.now) }
 {
-    codec::state_but_time(words_of(state))
+    let mut words = [0; 16];
+    little::get_words(state, &mut words);
+    codec::state_but_time(&words)
 }
 
 #[tactic(auto, unfolding(crate::specs::Bytes::state_bytes))]

@@ -57,6 +57,8 @@ module _ (name s : List ℕ) (at i j : ℕ) (inv : words_begin name s at ≡ beg
       pub word_agrees : not r ≡ false → words_begin name s at ≡ begins (words (drop b name)) (words (drop d s))
       word_agrees n = both ∙ rw (not-false r n)
 
+pub ruleset name_laws = (word_order, word_start, word_end, word_less, name_starts, name_ends, line_ends, word_differs, word_agrees)
+
 -- no more words than bytes: one more for the walk makes no difference
 enough : (name s : List ℕ) (n i : ℕ) → length s ≤ i + n → place_from (suc n) name s i ≡ place_from n name s i
 unfolding place_from
@@ -101,6 +103,8 @@ module _ (name s : List ℕ) (at : ℕ) (found : Option ℕ) (inv : place name s
     pub not_named : r ≡ false → place name s ≡ or_else (place_from (suc (length s)) name s e) found
     not_named n = inv ∙ rw (step, n, or_or)
 
+pub ruleset place_laws = (word_less, walk_starts, walk_ends, named, not_named)
+
 -- the five names, one after the other
 module _ (s : List ℕ) (p₁ : Option ℕ) (q₁ : p₁ ≡ place (ascii "Next Hop") s) where
   pub no_next_hop : p₁ ≡ None → None ≡ column_header s
@@ -139,6 +143,8 @@ module _ (s : List ℕ) (p₁ : Option ℕ) (q₁ : p₁ ≡ place (ascii "Next 
               pub no_rise : r ≡ false → None ≡ column_header s
               no_rise t = sym (all_five ∙ rw (← g, t))
 
+pub ruleset header_laws = (no_next_hop, no_metric, no_local_pref, no_weight, no_path, rise, no_rise)
+
 -- the shift
 pub no_shift : (c : Columns) → c.next_hop ≡ 0 → None ≡ shift_left c
 unfolding shift_left
@@ -149,6 +155,8 @@ module _ (c : Columns) (n m l w p : ℕ) where
       → Some (record { next_hop = n; metric = m; local_pref = l; weight = w; path = p }) ≡ shift_left c
   unfolding shift_left
   shifted h e₁ e₂ e₃ e₄ e₅ = rw (e₁, e₂, e₃, e₄, e₅) (simp (ne_eqb c.next_hop 0 h))
+
+pub ruleset shift_laws = (no_shift, shifted)
 
 -- columns that were found rise
 found_rise : (x c : Columns) → rising x ≡ Some c → are_rising c ≡ true

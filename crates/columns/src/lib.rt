@@ -5,7 +5,7 @@ ghost use Rattle.std.specs.Prelude.{◌≡◌, ◌-◌};
 ghost use Rattle.columns.specs.Columns.{words_begin, place, are_rising, column_header, shift_left};
 
 // Offsets in bytes; those of a column header rise.
-#[derive(Clone, Copy)]
+#[derive(Debug, Clone, Copy, PartialEq, Eq)]
 pub struct Columns {
     pub next_hop: usize,
     pub metric: usize,
@@ -15,11 +15,13 @@ pub struct Columns {
 }
 
 // Do the words of the name stand at the front of the line's words from `at` on?
+#[tactic(auto, using(crate::proofs::Laws::name_laws))]
 fn words_begin(line: &[u8], at: usize, name: &[u8]) -> bool
     ensures { result ≡ words_begin name.now line.now at }
 {
     let mut i = at;
     let mut j = 0;
+    // Stays a labelled loop: 01 names this form for the comparison of names.
     let all = 'name: loop {
         let Some((a, b)) = scan::next_word(name, j) else {
             break 'name true;
@@ -37,20 +39,19 @@ fn words_begin(line: &[u8], at: usize, name: &[u8]) -> bool
 }
 
 // Where the name stands in the line; of repeated names the last counts.
+#[tactic(auto, using(crate::proofs::Laws::place_laws))]
 fn last_place(line: &[u8], name: &[u8]) -> Option<usize>
     ensures { result ≡ place name.now line.now }
 {
     let mut found = None;
     let mut at = 0;
-    loop {
-        let Some((start, end)) = scan::next_word(line, at) else {
-            return found;
-        };
-        at = end;
+    while let Some((start, end)) = scan::next_word(line, at) {
         if words_begin(line, start, name) {
             found = Some(start);
         }
+        at = end;
     }
+    found
 }
 
 pub fn are_rising(c: Columns) -> bool
@@ -62,34 +63,21 @@ pub fn are_rising(c: Columns) -> bool
         & (c.weight < c.path)
 }
 
+#[tactic(auto, using(crate::proofs::Laws::header_laws))]
 pub fn parse_column_header(line: &[u8]) -> Option<Columns>
     ensures { result ≡ column_header line.now }
 {
-    let Some(next_hop) = last_place(line, b"Next Hop") else {
-        return None;
-    };
-    let Some(metric) = last_place(line, b"Metric") else {
-        return None;
-    };
-    let Some(local_pref) = last_place(line, b"LocPrf") else {
-        return None;
-    };
-    let Some(weight) = last_place(line, b"Weight") else {
-        return None;
-    };
-    let Some(path) = last_place(line, b"Path") else {
-        return None;
-    };
     let c = Columns {
-        next_hop,
-        metric,
-        local_pref,
-        weight,
-        path,
+        next_hop: last_place(line, b"Next Hop")?,
+        metric: last_place(line, b"Metric")?,
+        local_pref: last_place(line, b"LocPrf")?,
+        weight: last_place(line, b"Weight")?,
+        path: last_place(line, b"Path")?,
     };
     if are_rising(c) { Some(c) } else { None }
 }
 
+#[tactic(auto, using(crate::proofs::Laws::shift_laws))]
 pub fn shift_columns_left(c: Columns) -> Option<Columns>
     ensures { result ≡ shift_left c }
 {

@@ -12,12 +12,6 @@ use Rattle.seconds.specs.Seconds.{is_timestamp}
 use Rattle.elem.specs.Element.{spoilt}
 use Rattle.elem.specs.declared.Element.{Element}
 
--- the three tests make the answer
-pub told : (e : Element) (asns : List ℕ) (v t : Bool) → v ≡ valid_prefix e.prefix → t ≡ is_timestamp e.timestamp
-    → (not v || not t || ltb (length asns) e.count) ≡ spoilt e asns
-unfolding spoilt
-told e asns v t h k = rw (h, k)
-
 last_false : (a b c : Bool) → (a || b || c) ≡ false → c ≡ false
 last_false true b c h = let z : ◌≡◌ {A = ℕ} 0 1 = cc in absurd (omega arith)
 last_false false true c h = let z : ◌≡◌ {A = ℕ} 0 1 = cc in absurd (omega arith)

@@ -6,7 +6,7 @@ ghost use Rattle.elem.specs.Element.{spoilt};
 
 use network::{Asn, IpAddr, NetworkPrefix};
 
-#[derive(Clone, Copy)]
+#[derive(Debug, Clone, Copy, PartialEq, Eq)]
 pub enum Origin {
     IGP,
     EGP,
@@ -14,7 +14,7 @@ pub enum Origin {
 }
 
 // Its AS numbers are the first `count` of a list that is lent along with it.
-#[derive(Clone, Copy)]
+#[derive(Debug, Clone, Copy, PartialEq)]
 pub struct Element {
     pub announce: bool,
     pub timestamp: f64,
@@ -29,11 +29,11 @@ pub struct Element {
     pub origin: Option<Origin>,
 }
 
+#[tactic(auto, unfolding(crate::specs::Element::spoilt))]
 pub fn is_spoilt_element(e: Element, asns: &[u32]) -> bool
     ensures { result ≡ spoilt e asns.now }
 {
-    let prefix = e.prefix;
-    let timestamp = e.timestamp;
-    let count = e.count;
-    !network::is_valid_prefix(prefix) | !seconds::is_timestamp(timestamp) | (asns.len() < count)
+    !network::is_valid_prefix(e.prefix)
+        || !seconds::is_timestamp(e.timestamp)
+        || asns.len() < e.count
 }

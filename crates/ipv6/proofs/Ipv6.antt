@@ -76,18 +76,6 @@ digit_small b x = go (leb 48 b) (leb b 57) (leb 65 b) (leb b 70) (leb 97 b) (leb
     go false t₁ false t₃ true false e f g h = no h
     go false t₁ false t₃ false t₅ e f g h = no h
 
--- what the code's answers say
-pub option_some : (m : Option ℕ) (x : Option ℕ) (g : ℕ) → x ≡ m → x ≡ Some g → m ≡ Some g
-option_some (Some h) x g e f = cc
-option_some None x g e f = let z : ◌≡◌ {A = ℕ} 0 1 = cc in absurd (omega arith)
-
-pub option_none : (m : Option ℕ) (x : Option ℕ) → x ≡ m → x ≡ None → m ≡ None
-option_none (Some h) x e f = let z : ◌≡◌ {A = ℕ} 0 1 = cc in absurd (omega arith)
-option_none None x e f = refl
-
-pub hex_small : (b d : ℕ) (x : Option ℕ) → x ≡ hex_digit b → x ≡ Some d → d < 16
-hex_small b d x e f = digit_small b d (option_some (hex_digit b) x d e f)
-
 pub group_empty : (p : List ℕ) → length p ≡ 0 → None ≡ group p
 unfolding group
 group_empty p h = simp (lt-leb 1 (length p) (omega arith))
@@ -116,11 +104,11 @@ module _ (p : List ℕ) (some_digit : length p ≡ 0 → ⊥) (few : length p �
   module _ (h : i < length p) (x : Option ℕ) (hx : x ≡ hex_digit (get_or p i 0)) where
     pub group_stop : x ≡ None → None ≡ group p
     unfolding each
-    group_stop l = rw (as_value, drop-cons p i 0 h, option_none (hex_digit (get_or p i 0)) x hx l)
+    group_stop l = rw (as_value, drop-cons p i 0 h, ← hx, l)
 
     pub group_more : (d : ℕ) → x ≡ Some d → value_from 16 0 (each hex_digit p) ≡ value_from 16 (v * 16 + d) (each hex_digit (drop (i + 1) p))
     unfolding each number
-    group_more d l = hv ∙ rw (add-one, drop-cons p i 0 h, option_some (hex_digit (get_or p i 0)) x d hx l) (go (each hex_digit (drop (suc i) p)))
+    group_more d l = hv ∙ rw (add-one, drop-cons p i 0 h, ← hx, l) (go (each hex_digit (drop (suc i) p)))
       where
         go : (m : Option (List ℕ)) → value_from 16 v (prepend (Some d) m) ≡ value_from 16 (v * 16 + d) m
         go (Some ds) = refl

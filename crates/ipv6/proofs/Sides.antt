@@ -12,7 +12,7 @@ use lib.Seq.{take_all}
 use mir.Syntax.{w64}
 use mir.Val.{Fits}
 use lib.Dec.{eqb, leb, ltb}
-use borrow.Author.Tests.{le-ltb, lt-ltb, lt-leb, le-leb, eq-eqb, ne_eqb, leb-true, leb-false, eqb-true, eqb-false, not-true, not-false}
+use borrow.Author.Tests.{le-ltb, lt-ltb, lt-leb, le-leb, eq-eqb, ne_eqb, leb-true, leb-false, eqb-true, eqb-false, not-true}
 use Rattle.ipv4.specs.Parts.{parts, before, prepend, each, number}
 use Rattle.ipv4.specs.Ipv4.{ipv4}
 use Rattle.ipv6.specs.Ipv6.{hex_digit, value_from, group, last_part, groups, side, gap, filled, eight, ipv6, upper, lower, as_ipv6}
@@ -20,7 +20,7 @@ use Rattle.ipv6.specs.Groups.{no_groups, shifted, push, push_all, side_from, who
 use Rattle.ipv6.specs.declared.Groups.{Groups}
 use Rattle.ipv4.proofs.Parts.{parts_last, parts_more, parts_cons, before_take, each_length, each_small, number_room}
 use Rattle.ipv4.proofs.Ipv4.{ipv4_small}
-use Rattle.ipv6.proofs.Ipv6.{digit_small, option_some, option_none}
+use Rattle.ipv6.proofs.Ipv6.{digit_small}
 
 pub push_n : (r : Groups) (g : ℕ) → (push r g).n ≡ r.n + 1
 unfolding push
@@ -40,15 +40,6 @@ unfolding push_all
 push_all_append r [] b = refl
 push_all_append r (g ∷ a) b = push_all_append (push r g) a b
 
--- what the answers say
-ipv4_some : (m : Option ℕ) (x : Option ℕ) (a : ℕ) → x ≡ m → x ≡ Some a → m ≡ Some a
-ipv4_some (Some b) x a e f = cc
-ipv4_some None x a e f = let z : ◌≡◌ {A = ℕ} 0 1 = cc in absurd (omega arith)
-
-ipv4_none : (m : Option ℕ) (x : Option ℕ) → x ≡ m → x ≡ None → m ≡ None
-ipv4_none (Some b) x e f = let z : ◌≡◌ {A = ℕ} 0 1 = cc in absurd (omega arith)
-ipv4_none None x e f = refl
-
 -- one group in front
 from_prepend : (r : Groups) (g : ℕ) (m : Option (List ℕ)) → side_from r (prepend (Some g) m) ≡ side_from (push r g) m
 unfolding push_all
@@ -64,29 +55,29 @@ from_full r g None h = refl
 module _ (t : List ℕ) (dotted : Bool) (r : Groups) (x : Option ℕ) (hx : x ≡ group t) where
   module _ (g : ℕ) (hg : x ≡ Some g) where
     pub part_full : 7 < r.n → None ≡ side_from r (last_part dotted (group t) (ipv4 t))
-    part_full h = rw (option_some (group t) x g hx hg) (simp (lt-leb (r.n + 1) 8 (omega arith)))
+    part_full h = rw (← hx, hg) (simp (lt-leb (r.n + 1) 8 (omega arith)))
 
     pub part_group : r.n ≤ 7 → (y : Groups) → y ≡ push r g → Some y ≡ side_from r (last_part dotted (group t) (ipv4 t))
     unfolding push_all
-    part_group h y e = rw (option_some (group t) x g hx hg, e) (simp (le-leb (r.n + 1) 8 (omega arith)))
+    part_group h y e = rw (← hx, hg, e) (simp (le-leb (r.n + 1) 8 (omega arith)))
 
   module _ (hg : x ≡ None) where
     pub part_bare : not dotted ≡ true → None ≡ side_from r (last_part dotted (group t) (ipv4 t))
-    part_bare d = rw (option_none (group t) x hx hg, not-true dotted d)
+    part_bare d = rw (← hx, hg, not-true dotted d)
 
-    module _ (d : not dotted ≡ false) (y : Option ℕ) (hy : y ≡ ipv4 t) where
+    module _ (d : dotted ≡ true) (y : Option ℕ) (hy : y ≡ ipv4 t) where
       pub part_none : y ≡ None → None ≡ side_from r (last_part dotted (group t) (ipv4 t))
-      part_none e = rw (option_none (group t) x hx hg, not-false dotted d, ipv4_none (ipv4 t) y hy e)
+      part_none e = rw (← hx, hg, d, ← hy, e)
 
       module _ (a : ℕ) (ha : y ≡ Some a) where
         pub part_crowded : 6 < r.n → None ≡ side_from r (last_part dotted (group t) (ipv4 t))
         part_crowded h =
-            rw (option_none (group t) x hx hg, not-false dotted d, ipv4_some (ipv4 t) y a hy ha) (simp (lt-leb (r.n + 2) 8 (omega arith)))
+            rw (← hx, hg, d, ← hy, ha) (simp (lt-leb (r.n + 2) 8 (omega arith)))
 
         pub part_dotted : r.n ≤ 6 → (z w : Groups) → z ≡ push r (a / 65536) → w ≡ push z (a % 65536) → Some w ≡ side_from r (last_part dotted (group t) (ipv4 t))
         unfolding push_all
         part_dotted h z w e f =
-            rw (option_none (group t) x hx hg, not-false dotted d, ipv4_some (ipv4 t) y a hy ha, f, e) (simp (le-leb (r.n + 2) 8 (omega arith)))
+            rw (← hx, hg, d, ← hy, ha, f, e) (simp (le-leb (r.n + 2) 8 (omega arith)))
 
 pub push_le : (r z : Groups) (g : ℕ) → z ≡ push r g → r.n ≤ 7 → z.n ≤ 8
 push_le r z g e h = rw e (omega (arith, push_n r g))
@@ -122,17 +113,17 @@ module _ (s t : List ℕ) (dotted : Bool) (r₀ r : Groups) (inv : side_from r�
     first = rw (parts_more 58 t (omega arith), ← he, add-one) (groups_more dotted (before 58 t) (drop (suc e) t) ∙ rw (← before_take 58 t, ← he))
 
     pub side_stop : x ≡ None → None ≡ side_from r₀ (side dotted s)
-    side_stop g = rw (inv, first, option_none (group (take e t)) x hx g)
+    side_stop g = rw (inv, first, ← hx, g)
 
     module _ (g : ℕ) (hg : x ≡ Some g) where
       pub side_full : 7 < r.n → None ≡ side_from r₀ (side dotted s)
-      side_full l = sym (inv ∙ rw (first, option_some (group (take e t)) x g hx hg) (from_full r g (groups dotted (parts 58 (drop (e + 1) t))) l))
+      side_full l = sym (inv ∙ rw (first, ← hx, hg) (from_full r g (groups dotted (parts 58 (drop (e + 1) t))) l))
 
       pub side_next : (z : Groups) → z ≡ push r g
           → side_from r₀ (side dotted s) ≡ side_from z (groups dotted (parts 58 (take (length t - (e + 1)) (drop (e + 1) t))))
       side_next z f =
           inv
-          ∙ rw (first, option_some (group (take e t)) x g hx hg, take_all (length t - (e + 1)) (drop (e + 1) t) (simp length-drop (omega arith)), f)
+          ∙ rw (first, ← hx, hg, take_all (length t - (e + 1)) (drop (e + 1) t) (simp length-drop (omega arith)), f)
           (from_prepend r g (groups dotted (parts 58 (drop (e + 1) t))))
 
 -- zero groups

@@ -20,7 +20,7 @@ fn hex_digit(b: u8) -> Option<u8>
     }
 }
 
-#[tactic(auto, using(crate::proofs::Ipv6::group_empty, crate::proofs::Ipv6::group_long, crate::proofs::Ipv6::group_from, crate::proofs::Ipv6::group_whole, crate::proofs::Ipv6::group_stop, crate::proofs::Ipv6::group_more, crate::proofs::Ipv6::hex_small, crate::proofs::Ipv6::hex_room, crate::proofs::Ipv6::hex_room_for, crate::proofs::Ipv6::hex_grows))]
+#[tactic(auto, using(crate::proofs::Ipv6::group_empty, crate::proofs::Ipv6::group_long, crate::proofs::Ipv6::group_from, crate::proofs::Ipv6::group_whole, crate::proofs::Ipv6::group_stop, crate::proofs::Ipv6::group_more, crate::proofs::Ipv6::digit_small, crate::proofs::Ipv6::hex_room, crate::proofs::Ipv6::hex_room_for, crate::proofs::Ipv6::hex_grows))]
 fn group(p: &[u8]) -> Option<u16>
     ensures { result ≡ group_of p.now }
 {
@@ -96,10 +96,7 @@ fn part_end(t: &[u8], c: u8) -> usize
 fn gap(s: &[u8]) -> usize
     ensures { result ≡ gap_of s.now }
 {
-    match scan::find(s, b"::") {
-        Some(k) => k,
-        None => s.len(),
-    }
+    scan::find(s, b"::").unwrap_or(s.len())
 }
 
 // The last part of a side: a group, or where that is allowed an IPv4 address.
@@ -117,9 +114,7 @@ fn last_part(t: &[u8], dotted: bool, r: Groups) -> Option<Groups>
     if !dotted {
         return None;
     }
-    let Some(a) = ipv4::read_ipv4(t) else {
-        return None;
-    };
+    let a = ipv4::read_ipv4(t)?;
     if 6 < r.n {
         return None;
     }
@@ -182,20 +177,12 @@ fn whole(r: Groups) -> Option<(u64, u64)>
 fn around(left: &[u8], right: &[u8]) -> Option<(u64, u64)>
     ensures { result ≡ as_ipv6 (filled (side_of false left.now) (side_of true right.now)) }
 {
-    let Some(l) = side(left, false, NO_GROUPS) else {
-        return None;
-    };
-    let Some(r) = side(right, true, NO_GROUPS) else {
-        return None;
-    };
-    let m = r.n;
-    if 7 < l.n + m {
+    let l = side(left, false, NO_GROUPS)?;
+    let r = side(right, true, NO_GROUPS)?;
+    if 7 < l.n + r.n {
         return None;
     }
-    let Some(x) = side(right, true, fill(l, 8 - m)) else {
-        return None;
-    };
-    whole(x)
+    whole(side(right, true, fill(l, 8 - r.n))?)
 }
 
 #[tactic(auto, using(crate::proofs::Ipv6::gap_room, crate::proofs::Sides::gap_text, crate::proofs::Sides::plain_none, crate::proofs::Sides::plain_whole))]
@@ -207,8 +194,5 @@ pub fn read_ipv6(s: &[u8]) -> Option<(u64, u64)>
         let j = k + 2;
         return around(&s[..k], &s[j..]);
     }
-    let Some(x) = side(s, true, NO_GROUPS) else {
-        return None;
-    };
-    whole(x)
+    whole(side(s, true, NO_GROUPS)?)
 }

@@ -5,17 +5,17 @@ ghost use Rattle.std.specs.Prelude.{◌≡◌, ◌≤◌};
 ghost use Rattle.network.specs.Address.{read_address};
 ghost use Rattle.network.specs.Prefix.{last_place, length_of, length_for, read_prefix, valid_prefix};
 
-#[derive(Clone, Copy)]
+#[derive(Debug, Clone, Copy, PartialEq, Eq)]
 pub struct Asn(pub u32);
 
 // The address as numbers, upper half first.
-#[derive(Clone, Copy)]
+#[derive(Debug, Clone, Copy, PartialEq, Eq)]
 pub enum IpAddr {
     V4(u32),
     V6(u64, u64),
 }
 
-#[derive(Clone, Copy)]
+#[derive(Debug, Clone, Copy, PartialEq, Eq)]
 pub struct NetworkPrefix {
     pub addr: IpAddr,
     pub len: u8,

@@ -122,13 +122,9 @@ module _ (s : List ℕ) (i : ℕ) where
       forward : Steps s i e
       forward = record { later = omega (arith, (lies s i w q a e f).from, (lies s i w q a e f).some_byte); inside = (lies s i w q a e f).inside }
 
-      pub finds_number : (x : ℕ) → r ≡ Some x → Finds s i (Some (Some x, e))
+      pub finds_token : Finds s i (Some (r, e))
       unfolding numbers
-      finds_number x g = (forward, rw (lies s i w q a e f).step (rw (← p, g)))
-
-      pub finds_other : r ≡ None → Finds s i (Some (None, e))
-      unfolding numbers
-      finds_other g = (forward, rw (lies s i w q a e f).step (rw (← p, g)))
+      finds_token = (forward, rw (lies s i w q a e f).step (rw p))
 
 -- the walk: n numbers are in front of the place i
 pub count_starts : (s : List ℕ) → 0 + length (asns_from s 0) ≡ length (asns_of s)
@@ -185,8 +181,8 @@ module _ (asns old : List ℕ) where
 -- for last_token: where a token lies, and what is the last so far
 pub ruleset last_token_laws = (token_order, token_end, token_less, last_starts, last_found, last_later)
 
--- for next_asn: where a token lies, and where no number is left
-pub ruleset next_asn_laws = (token_order, token_end, is_lone_none, finds_end)
+-- for next_asn: where a token lies, and where none is left
+pub ruleset next_asn_laws = (token_order, token_end, finds_end)
 
 -- for write_asns: what the lent list holds at each turn
 pub ruleset write_asns_laws = (writing_starts, wrote_more, kept_more, written)

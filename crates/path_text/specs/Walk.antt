@@ -2,7 +2,7 @@
 use Rattle.std.specs.Prelude.{ℕ, ◌≤◌, ◌<◌, ◌≡◌, Bool, false, not, List, [], ◌∷◌, length, drop, Option, Some, None}
 use Rattle.decimal.specs.Decimal.{is_digit}
 use Rattle.text.specs.White.{tokens}
-use Rattle.path_text.specs.Path.{numbers}
+use Rattle.path_text.specs.Path.{if_number, numbers}
 
 -- the AS numbers from the place i on
 abbrev pub asns_from : List ℕ → ℕ → List ℕ
@@ -22,14 +22,9 @@ abbrev pub IsPlain : List ℕ → ℕ → Option (ℕ × ℕ) → Type 0
 IsPlain s i (Some t) = Takes s i t.0 t.1
 IsPlain s i None = Unit {0}
 
--- a number in front of others, if there is one
-abbrev pub in_front : Option ℕ → List ℕ → List ℕ
-in_front (Some x) l = x ∷ l
-in_front None l = l
-
 -- what is told of the next token: its number, if it is one, is the next of them, and the place e is behind it; at the path's end none are left
 abbrev pub Finds : List ℕ → ℕ → Option (Option ℕ × ℕ) → Type 0
-Finds s i (Some t) = Steps s i t.1 × (asns_from s i ≡ in_front t.0 (asns_from s t.1))
+Finds s i (Some t) = Steps s i t.1 × (asns_from s i ≡ if_number t.0 (asns_from s t.1))
 Finds s i None = asns_from s i ≡ []
 
 -- one byte that is no digit

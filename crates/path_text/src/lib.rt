@@ -43,7 +43,8 @@ fn is_letter(b: u8) -> bool
     matches!(b, b'i' | b'e' | b'?')
 }
 
-// What a letter tells, by way of its number: no branch is made of that, and none would guess which letter comes.
+// What a letter tells.
+// Stays by way of its number: no branch is made of that, and none would guess which letter comes.
 #[tactic(auto, using(crate::proofs::OriginLaws::letter_byte))]
 fn origin_by(b: u8) -> Origin
     requires { is_known (letter (b ∷ [])) ≡ true }
@@ -93,26 +94,24 @@ fn is_lone(part: &[u8], at: usize) -> bool
 fn next_asn(part: &[u8], at: usize) -> Option<(Option<u32>, usize)>
     ensures { Finds part.now at result }
 {
-    if is_lone(part, at) {
-        return None;
-    }
-    let Some((a, b)) = text::next_token(part, at) else {
-        return None;
-    };
-    let Some(x) = decimal::read_u32(&part[a..b]) else {
-        return Some((None, b));
-    };
-    Some((Some(x), b))
+    let (a, b) = text::next_token(part, at)?;
+    Some((decimal::read_u32(&part[a..b]), b))
 }
 
-// The same, by way of a plain number where it is one.
+// The same, without looking for a token where a plain number or the path's end is seen at once.
+#[tactic(auto, using(crate::proofs::PathLaws::is_lone_none))]
 fn quick_asn(part: &[u8], at: usize) -> Option<(Option<u32>, usize)>
     ensures { Finds part.now at result }
 {
-    match plain_number(part, at) {
-        Some((x, end)) => Some((Some(x), end)),
-        None => next_asn(part, at),
+    if let Some((x, end)) = plain_number(part, at) {
+        return Some((Some(x), end));
     }
+    if is_lone(part, at) {
+        return None;
+    }
+    // Taken apart, so that the answer of the usual way needs no memory.
+    let (number, end) = next_asn(part, at)?;
+    Some((number, end))
 }
 
 // How many AS numbers a path's part has.

@@ -7,7 +7,6 @@ ghost use Rattle.scan.specs.Lines.{is_feed, not_feed, line_end};
 ghost use Rattle.scan.specs.Words.{is_gap, not_gap, next_word};
 ghost use Rattle.scan.specs.Search.{equal, starts_with, find_in};
 
-// A word's start and end.
 // Whether one of the 64 bytes from `at` on is a line feed. There is no branch: the compiler makes
 // vector comparisons of it.
 fn feed_near(s: &[u8], at: usize) -> bool

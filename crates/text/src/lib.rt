@@ -155,7 +155,6 @@ pub fn trim(s: &[u8]) -> &[u8]
     trim_end(trim_start(s))
 }
 
-// A token's start and end.
 // The bytes of the character at the front, or 1 where none begins there.
 fn piece_len(s: &[u8]) -> usize
     ensures { result ≡ piece_len s.now }

@@ -202,3 +202,6 @@ next_moved σ t k = go (spoilt σ (length t))
     go : (b : Bool) → moved σ (cursor (cond b (refused 5, σ) (stepped σ (next_at (rules σ) t k (cursor σ)))).1) ≡ (cond b (refused 5, σ) (stepped σ (next_at (rules σ) t k (cursor σ)))).1
     go true = moved_cursor σ
     go false = ap (moved σ) (cursor_moved σ (next_at (rules σ) t k (cursor σ)).1)
+
+-- for next
+pub ruleset next_laws = (refl, comes, line_order, line_inside, line_less, passes, wraps, passes_route, refuses_5, in_part, refuses_6, says_end, at_route_lem)

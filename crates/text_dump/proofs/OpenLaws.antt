@@ -25,12 +25,6 @@ use Rattle.text_dump.specs.declared.Remembered.TheVariants.{Nothing}
 use Rattle.text_dump.specs.declared.OpenError.{OpenError}
 use Rattle.text_dump.specs.declared.OpenError.TheVariants.{NoColumns, NoTimestamp, Unreadable}
 
-pub known_asn : (x : Option ℕ) (n : ℕ) → x ≡ Some n → record { 0 = n } ≡ peer_asn x
-known_asn x n e = rw e
-
-pub missing_asn : (x : Option ℕ) → x ≡ None → record { 0 = 0 } ≡ peer_asn x
-missing_asn x e = rw e
-
 module _ (s : List ℕ) (time : Float) (t : Bool) (et : t ≡ is_timestamp time) where
   pub no_timestamp : not t ≡ true → told (Err NoTimestamp) ≡ open_of time s
   unfolding open_of

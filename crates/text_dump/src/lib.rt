@@ -17,14 +17,14 @@ use path_text::AsnsError;
 use text_dump_header::{HeaderError, TextDumpHeader};
 use text_dump_line::{Line, PrefixText, RouteEntry};
 
-#[derive(Clone, Copy)]
+#[derive(Debug, Clone, Copy, PartialEq, Eq)]
 pub enum Remembered {
     Nothing,
     Invalid,
     Valid(NetworkPrefix),
 }
 
-#[derive(Clone, Copy)]
+#[derive(Debug, Clone, Copy, PartialEq)]
 pub struct State {
     pub columns: Columns,
     pub peer_ip: IpAddr,
@@ -63,19 +63,13 @@ pub enum NextError {
 fn peer_ip(id: Option<IpAddr>) -> IpAddr
     ensures { result ≡ peer_ip id }
 {
-    let Some(a) = id else {
-        return IpAddr::V4(0);
-    };
-    a
+    id.unwrap_or(IpAddr::V4(0))
 }
 
 fn peer_asn(number: Option<u32>) -> Asn
     ensures { result ≡ peer_asn number }
 {
-    let Some(n) = number else {
-        return Asn(0);
-    };
-    Asn(n)
+    Asn(number.unwrap_or(0))
 }
 
 fn is_valid_remembered(m: Remembered) -> bool
@@ -88,6 +82,7 @@ fn is_valid_remembered(m: Remembered) -> bool
 }
 
 // What is remembered behind a route: any prefix text but a blank one replaces it.
+#[tactic(auto, using(crate::proofs::StateLaws::replaces))]
 pub fn replaced(text: PrefixText, m: Remembered) -> Remembered
     ensures { plain result ≡ replace (text_of text) (plain m) }
 {
@@ -103,10 +98,7 @@ pub fn replaced(text: PrefixText, m: Remembered) -> Remembered
 pub fn origin_asn(asns: &[u32], count: usize) -> Option<Asn>
     ensures { result ≡ origin_asn (take count asns.now) }
 {
-    match asns[..count.min(asns.len())].last() {
-        Some(asn) => Some(Asn(*asn)),
-        None => None,
-    }
+    asns[..count.min(asns.len())].last().map(|asn| Asn(*asn))
 }
 
 impl State {
@@ -154,6 +146,7 @@ impl State {
         }
     }
 
+    #[tactic(auto, using(crate::proofs::OpenLaws::no_timestamp))]
     pub fn open(text: &[u8], timestamp: f64) -> Result<State, OpenError>
         ensures { toldOpened result ≡ open_of timestamp text.now }
     {
@@ -198,6 +191,7 @@ impl State {
     // Passes lines until one yields. The state is that after the element's line or at the part's end, and in a refusal the one that
     // was handed in. An element's AS numbers stand in the lent list from place 0 on. The loop is not a function of its own: what it
     // comes to would cross through an enum whose variants do not lie alike.
+    #[tactic(auto, using(crate::proofs::NextLaws::next_laws))]
     pub fn next(self, part: &[u8], asns: &mut [u32]) -> (State, Result<Option<Element>, NextError>)
         ensures { Answers (next_of self part.now (length asns.old)) asns.old result asns.new }
     {
@@ -206,7 +200,8 @@ impl State {
         }
         let mut remembered = self.remembered;
         let mut at = self.position;
-        // Stays a while: each line begins where the last one ended, which no range says.
+        // Stays a while: scan::line_end looks at 64 bytes at a time (docs/PERFORMANCE.md: -7 %), an
+        // iterator over the lines at each.
         while at < part.len() {
             let start = at;
             at = scan::line_end(part, start);

@@ -13,7 +13,7 @@ use Rattle.columns.specs.Columns.{are_rising}
 use Rattle.columns.proofs.Laws.{header_rises}
 use Rattle.columns.specs.declared.Columns.{Columns}
 use Rattle.columns.proofs.Laws.{none_found}
-use Rattle.text_dump_header.specs.Header.{columns_of, is_found, through, unreadable_line, preamble_of, last_columns, total, header_of, answer, header_from, missing, header}
+use Rattle.text_dump_header.specs.Header.{columns_of, is_found, through, unreadable_line, preamble_of, last_columns, total, answer, header_from, missing, header}
 use Rattle.text_dump_header.specs.declared.Preamble.{Preamble}
 use Rattle.text_dump_header.specs.declared.HeaderError.{HeaderError}
 use Rattle.text_dump_header.specs.declared.TextDumpHeader.{TextDumpHeader}

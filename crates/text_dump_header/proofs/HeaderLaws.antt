@@ -1,5 +1,5 @@
 -- Laws of the scan over the header's lines.
-use Rattle.std.specs.Prelude.{Option, Some, None, Result, Ok, Err}
+use Rattle.std.specs.Prelude.{Option, Some, None, is_some, Result, Ok, Err}
 use Prim.Native.Nat.{ℕ, zero, suc, ◌+◌, ◌-◌, ◌≤◌}
 use mathlib.Core.Path.{◌≡◌, refl, sym, ap, ◌∙◌}
 use mathlib.Core.Bool.{Bool, true, false, cond, not}
@@ -105,15 +105,22 @@ module _ (s : List ℕ) (n at : ℕ) (p : Preamble) (inv : header s ≡ header_f
         to_end : at + length line ≡ end
         to_end = omega (arith, size, line_order)
 
-        pub line_columns : (x : Columns) → c ≡ Some x → Ok (header_of p' c, end) ≡ header s
-        line_columns x f =
-            let found : columns_of line ≡ Some x = columns_are ∙ f in
-            sym (first ∙ rw found (last_line n p at line (Some x) ok found ∙ rw (said, to_end, f)))
+        module _ (b : Bool) (qb : b ≡ is_some c) where
+          pub line_columns : b ≡ true → Ok (header_of p' c, end) ≡ header s
+          line_columns f = go c columns_are (sym qb ∙ f)
+            where
+              go : (x : Option Columns) → columns_of line ≡ x → is_some x ≡ true → Ok (header_of p' x, end) ≡ header s
+              go (Some x) e i = sym (first ∙ rw e (last_line n p at line (Some x) ok e ∙ rw (said, to_end)))
+              go None e i = let z : ◌≡◌ {A = ℕ} 0 1 = cc in absurd (omega arith)
 
-        pub line_passed : c ≡ None → header s ≡ header_from (n + 1) p' end (through later)
-        line_passed f =
-            let found : columns_of line ≡ None = columns_are ∙ f in
-            first ∙ rw found (next_line n p at line (through later) ok found ∙ rw (said, to_end))
+          pub line_passed : b ≡ false → header s ≡ header_from (n + 1) p' end (through later)
+          line_passed f = go c columns_are (sym qb ∙ f)
+            where
+              go : (x : Option Columns) → columns_of line ≡ x → is_some x ≡ false → header s ≡ header_from (n + 1) p' end (through later)
+              go None e i = first ∙ rw e (next_line n p at line (through later) ok e ∙ rw (said, to_end))
+              go (Some x) e i = let z : ◌≡◌ {A = ℕ} 0 1 = cc in absurd (omega arith)
+
+pub ruleset scan_laws = (scan_starts, scanned, text_ends, line_order, line_inside, line_unreadable, line_columns, line_passed)
 
 -- the answer by what the ways out of the loop yield
 pub joined : (s : List ℕ) (p q : Preamble) (c d : Option Columns) (a b : ℕ) → p ≡ q → c ≡ d → a ≡ b → Ok (header_of q d, b) ≡ header s

@@ -1,12 +1,10 @@
 // Is it a table, and what its preamble and column header say.
 #![tactic(auto)]
 
-ghost use Rattle.std.specs.Prelude.{◌≡◌, take};
+ghost use Rattle.std.specs.Prelude.{◌≡◌, Some, None, MatchOption, take};
 ghost use Rattle.text_dump_header.specs.Detect.{contains as containsOf, detect};
-ghost use Rattle.text_dump_header.specs.Preamble.{up_to, reads, version_text, router_in, router_text, local_as_text, preamble_line};
+ghost use Rattle.text_dump_header.specs.Preamble.{before, behind, marked, version_text, router_in, router_text, local_as_text, preamble_line};
 ghost use Rattle.text_dump_header.specs.Header.{header_of, header};
-ghost use Rattle.decimal.specs.Decimal.{read_u32, read_u64};
-ghost use Rattle.network.specs.Address.{read_address};
 
 use columns::Columns;
 use network::IpAddr;
@@ -23,7 +21,7 @@ fn head(s: &[u8]) -> &[u8]
 fn contains(s: &[u8], p: &[u8]) -> bool
     ensures { result ≡ containsOf s.now p.now }
 {
-    matches!(scan::find(s, p), Some(_))
+    scan::find(s, p).is_some()
 }
 
 pub fn detect_text_dump(bytes: &[u8]) -> bool
@@ -38,95 +36,88 @@ pub fn detect_text_dump(bytes: &[u8]) -> bool
         & (contains(s, b"BGP table") | contains(s, b"Next Hop") | contains(s, b"Status codes:"))
 }
 
-// What is in front of p, or all.
-fn up_to<'a>(s: &'a [u8], p: &[u8]) -> &'a [u8]
-    ensures { result.now ≡ up_to p.now s.now }
+// What stands before the first p.
+#[tactic(auto, using(crate::proofs::PreambleLaws::before_laws))]
+fn before<'a>(s: &'a [u8], p: &[u8]) -> Option<&'a [u8]>
+    ensures { MatchOption result (before p.now s.now ≡ None) (λ x. before p.now s.now ≡ Some x.now) }
 {
-    let Some(k) = scan::find(s, p) else {
-        return s;
-    };
-    &s[..k]
+    let k = scan::find(s, p)?;
+    Some(&s[..k])
 }
 
-// The version that a line gives, else the old one.
-fn table_version(t: &[u8], old: Option<u64>) -> Option<u64>
-    ensures { result ≡ reads read_u64 (version_text t.now) old }
+// What stands behind the first p.
+#[tactic(auto, using(crate::proofs::PreambleLaws::behind_laws))]
+fn behind<'a>(s: &'a [u8], p: &[u8]) -> Option<&'a [u8]>
+    ensures { MatchOption result (behind p.now s.now ≡ None) (λ x. behind p.now s.now ≡ Some x.now) }
 {
-    if !scan::starts_with(t, b"BGP table version is ") {
-        return old;
+    let k = scan::find(s, p)?;
+    Some(&s[k + p.len()..])
+}
+
+// The text behind the first mark, up to a second one.
+#[tactic(auto, using(crate::proofs::PreambleLaws::marked_laws))]
+fn marked<'a>(s: &'a [u8], mark: &[u8]) -> Option<&'a [u8]>
+    ensures { MatchOption result (marked mark.now s.now ≡ None) (λ x. marked mark.now s.now ≡ Some x.now) }
+{
+    let rest = behind(s, mark)?;
+    Some(before(rest, mark).unwrap_or(rest))
+}
+
+fn version_text(t: &[u8]) -> Option<&[u8]>
+    ensures { MatchOption result (version_text t.now ≡ None) (λ x. version_text t.now ≡ Some x.now) }
+{
+    let rest = t.strip_prefix(b"BGP table version is ")?;
+    before(rest, b",")
+}
+
+fn router_in(s: &[u8]) -> Option<&[u8]>
+    ensures { MatchOption result (router_in s.now ≡ None) (λ x. router_in s.now ≡ Some x.now) }
+{
+    let id = marked(s, b"local router ID is ")?;
+    before(id, b",")
+}
+
+fn router_text(t: &[u8]) -> Option<&[u8]>
+    ensures { MatchOption result (router_text t.now ≡ None) (λ x. router_text t.now ≡ Some x.now) }
+{
+    let rest = t.strip_prefix(b"BGP table version is ")?;
+    let router = behind(rest, b",")?;
+    router_in(router)
+}
+
+fn local_as_text(t: &[u8]) -> Option<&[u8]>
+    ensures { MatchOption result (local_as_text t.now ≡ None) (λ x. local_as_text t.now ≡ Some x.now) }
+{
+    if scan::starts_with(t, b"Default local pref") {
+        marked(t, b"local AS ")
+    } else {
+        None
     }
-    let rest = &t[21..];
-    let Some(k) = scan::find(rest, b",") else {
-        return old;
-    };
-    decimal::read_u64(text::trim(&rest[..k]))
 }
 
-fn router_in(s: &[u8], old: Option<IpAddr>) -> Option<IpAddr>
-    ensures { result ≡ reads read_address (router_in s.now) old }
-{
-    let Some(k) = scan::find(s, b"local router ID is ") else {
-        return old;
-    };
-    let marked = &s[k..];
-    let id = up_to(&marked[19..], b"local router ID is ");
-    let Some(end) = scan::find(id, b",") else {
-        return old;
-    };
-    network::read_address(text::trim(&id[..end]))
-}
-
-fn router_id(t: &[u8], old: Option<IpAddr>) -> Option<IpAddr>
-    ensures { result ≡ reads read_address (router_text t.now) old }
-{
-    if !scan::starts_with(t, b"BGP table version is ") {
-        return old;
-    }
-    let rest = &t[21..];
-    let Some(k) = scan::find(rest, b",") else {
-        return old;
-    };
-    let comma = &rest[k..];
-    router_in(&comma[1..], old)
-}
-
-fn local_as(t: &[u8], old: Option<u32>) -> Option<u32>
-    ensures { result ≡ reads read_u32 (local_as_text t.now) old }
-{
-    if !scan::starts_with(t, b"Default local pref") {
-        return old;
-    }
-    let Some(k) = scan::find(t, b"local AS ") else {
-        return old;
-    };
-    let marked = &t[k..];
-    decimal::read_u32(text::trim(up_to(&marked[9..], b"local AS ")))
-}
-
-#[derive(Clone, Copy)]
+#[derive(Debug, Clone, Copy, PartialEq, Eq)]
 pub struct Preamble {
     pub table_version: Option<u64>,
     pub router_id: Option<IpAddr>,
     pub local_as: Option<u32>,
 }
 
+// A text that a line gives overwrites, even where it is no number and no address.
+#[tactic(auto, using(crate::proofs::PreambleLaws::preamble_laws))]
 fn read_preamble(t: &[u8], p: Preamble) -> Preamble
     ensures { result ≡ preamble_line t.now p }
 {
-    let version = p.table_version;
-    let router = p.router_id;
-    let number = p.local_as;
-    let table_version = table_version(t, version);
-    let router_id = router_id(t, router);
-    let local_as = local_as(t, number);
     Preamble {
-        table_version,
-        router_id,
-        local_as,
+        table_version: version_text(t).map_or(
+            p.table_version,
+            |x| decimal::read_u64(text::trim(x)),
+        ),
+        router_id: router_text(t).map_or(p.router_id, |x| network::read_address(text::trim(x))),
+        local_as: local_as_text(t).map_or(p.local_as, |x| decimal::read_u32(text::trim(x))),
     }
 }
 
-#[derive(Clone, Copy)]
+#[derive(Debug, Clone, Copy, PartialEq, Eq)]
 pub struct TextDumpHeader {
     pub table_version: Option<u64>,
     pub router_id: Option<IpAddr>,
@@ -143,18 +134,16 @@ pub enum HeaderError {
 fn header_of(p: Preamble, columns: Option<Columns>) -> TextDumpHeader
     ensures { result ≡ header_of p columns }
 {
-    let table_version = p.table_version;
-    let router_id = p.router_id;
-    let local_as = p.local_as;
     TextDumpHeader {
-        table_version,
-        router_id,
-        local_as,
+        table_version: p.table_version,
+        router_id: p.router_id,
+        local_as: p.local_as,
         columns,
     }
 }
 
 // The header, and the position after its last line.
+#[tactic(auto, using(crate::proofs::HeaderLaws::scan_laws))]
 pub fn parse_header(text: &[u8]) -> Result<(TextDumpHeader, usize), HeaderError>
     ensures { result ≡ header text.now }
 {
@@ -184,7 +173,7 @@ pub fn parse_header(text: &[u8]) -> Result<(TextDumpHeader, usize), HeaderError>
         p = read_preamble(t, p);
         at = end;
         let c = columns::parse_column_header(t);
-        if let Some(_) = c {
+        if c.is_some() {
             break 'lines c;
         }
     };

@@ -200,12 +200,6 @@ module _ (t : List ℕ) (c : Columns) (d : Bool) (qd : d ≡ displayed t) where
     pub no_address : r ≡ None → None ≡ route_of c t
     no_address f = sym (by_address ∙ rw f)
 
-    pub route : (hop : IpAddr) → r ≡ Some hop → (p : PrefixText) → p ≡ prefix_text (column 3 c.next_hop t)
-        → (e : RouteEntry) → e ≡ entry_of c hop t → Some (p, e) ≡ route_of c t
-    route hop f p ep e ee =
-        let w : Some (p, e) ≡ route_to c t (Some hop) = rw (ee, ep) in
-        w ∙ sym (by_address ∙ ap (route_to c t) f)
-
 pub trimmed_route : (s : List ℕ) (c : Columns) (t : List ℕ) (r : Option (PrefixText × RouteEntry)) → t ≡ trim_end s → r ≡ route_of c t → r ≡ route_of c (trim_end s)
 trimmed_route s c t r e f = rw (f, e)
 

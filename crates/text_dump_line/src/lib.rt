@@ -14,7 +14,7 @@ use columns::Columns;
 use elem::Origin;
 use network::{IpAddr, NetworkPrefix};
 
-#[derive(Clone, Copy)]
+#[derive(Debug, Clone, Copy, PartialEq, Eq)]
 pub enum PrefixText {
     Blank,
     Invalid,
@@ -22,7 +22,7 @@ pub enum PrefixText {
 }
 
 // What a route carries besides its prefix. The path's part of the line lies between two places. The origin stands last, so that the numbers are copied in whole words.
-#[derive(Clone, Copy)]
+#[derive(Debug, Clone, Copy, PartialEq, Eq)]
 pub struct RouteEntry {
     pub next_hop: IpAddr,
     pub metric: Option<u32>,
@@ -32,7 +32,7 @@ pub struct RouteEntry {
     pub origin: Option<Origin>,
 }
 
-#[derive(Clone, Copy)]
+#[derive(Debug, Clone, Copy, PartialEq, Eq)]
 pub enum Line {
     Unreadable,
     Passed,
@@ -142,7 +142,7 @@ fn entry_of(whole: bool, t: &[u8], c: Columns, hop: IpAddr) -> RouteEntry
     }
 }
 
-#[tactic(auto, using(crate::proofs::LineLaws::route_laws))]
+#[tactic(auto, using(crate::proofs::LineLaws::route_laws), unfolding(crate::specs::Line::route_of))]
 fn route_in(whole: bool, t: &[u8], c: Columns) -> Option<(PrefixText, RouteEntry)>
     requires { whole ≡ true → Whole c t.now }
     ensures { result ≡ route_of c t.now }
@@ -150,9 +150,7 @@ fn route_in(whole: bool, t: &[u8], c: Columns) -> Option<(PrefixText, RouteEntry
     if is_displayed(t) {
         return None;
     }
-    let Some(next_hop) = address_at(whole, t, c.next_hop, c.metric) else {
-        return None;
-    };
+    let next_hop = address_at(whole, t, c.next_hop, c.metric)?;
     let prefix = prefix_at(whole, t, 3, c.next_hop);
     Some((prefix, entry_of(whole, t, c, next_hop)))
 }
@@ -165,16 +163,13 @@ fn any_route(ascii: bool, t: &[u8], c: Columns) -> Option<(PrefixText, RouteEntr
 {
     for is_shifted in [false, true] {
         let tried = if is_shifted {
-            let Some(shifted) = columns::shift_columns_left(c) else {
-                return None;
-            };
-            shifted
+            columns::shift_columns_left(c)?
         } else {
             c
         };
         let whole = is_whole(ascii, t, tried);
         let route = route_in(whole, t, tried);
-        if let Some((_, _)) = route {
+        if route.is_some() {
             return route;
         }
     }

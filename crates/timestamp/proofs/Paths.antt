@@ -4,13 +4,12 @@ use mathlib.Core.Bool.{Bool, true, false, not, cond}
 use mathlib.Core.List.{List}
 use Prim.Native.Nat.{ℕ, ◌-◌}
 use lib.Ieee.{Float}
-use Rattle.std.specs.Prelude.{Option, Some, None, Ok, Err}
+use Rattle.std.specs.Prelude.{is_some, Option, Some, None, Ok, Err}
 use lib.ListN.{length, take, drop}
 use borrow.Author.Tests.{not-true, not-false}
 use Rattle.utf8.specs.Utf8.{readable}
 use Rattle.calendar.specs.declared.Date.{Date}
 use Rattle.seconds.specs.Seconds.{timestamp_of}
-use Rattle.seconds.proofs.Callers.{second_some, second_none}
 use Rattle.timestamp.specs.Dates.{dashed, dotted, has_shape, digit_before, date_of, moment_of, moment_in, is_dashed, is_dotted, first_place, noon_in, second_in, as_inferred, infer_timestamp, refusal}
 use Rattle.timestamp.specs.declared.InferError.TheVariants.{NotUtf8}
 use Rattle.timestamp.proofs.Shapes.{part_is}
@@ -37,13 +36,9 @@ module _ (path : List ℕ) (i : ℕ) (b : Bool) (eb : b ≡ digit_before path i)
       read : r ≡ moment_in (drop i path)
       read = er ∙ ap (λ (s : List ℕ). (moment_in s)) (part_is path i)
 
-      pub a_moment : (o : ℕ) → r ≡ Some o → true ≡ is_dashed path i
+      pub by_moment : (q : Bool) → q ≡ is_some r → q ≡ is_dashed path i
       unfolding is_dashed
-      a_moment o e = rw (← eb, h, ← shaped, not-false f g, second_some (moment_in (drop i path)) r o read e)
-
-      pub no_moment : r ≡ None → false ≡ is_dashed path i
-      unfolding is_dashed
-      no_moment e = rw (← eb, h, ← shaped, not-false f g, second_none (moment_in (drop i path)) r read e)
+      by_moment q e = rw (← eb, h, ← shaped, not-false f g, ← read, ← e)
 
 -- a date with dots at a place
 pub is_dotted_lem : (path : List ℕ) (i : ℕ) (f : Bool) → f ≡ has_shape dotted (part path i) → f ≡ is_dotted path i
@@ -88,7 +83,7 @@ module _ (path : List ℕ) (u : Bool) (eu : u ≡ readable path) where
 
   module _ (h : not u ≡ false) (r : Option ℕ) (e : r ≡ second_in path) where
     pub none_named : r ≡ None → (Ok None) ≡ infer_timestamp path
-    none_named f = sym (answer true (not-false u h) ∙ ap as_inferred (second_none (second_in path) r e f))
+    none_named f = sym (answer true (not-false u h) ∙ ap as_inferred (sym e ∙ f))
 
     pub one_named : (o : ℕ) (t : Float) → r ≡ Some o → t ≡ timestamp_of o → Ok (Some t) ≡ infer_timestamp path
-    one_named o t f et = rw et (sym (answer true (not-false u h) ∙ ap as_inferred (second_some (second_in path) r o e f)))
+    one_named o t f et = rw et (sym (answer true (not-false u h) ∙ ap as_inferred (sym e ∙ f)))

@@ -56,14 +56,12 @@ fn date_of(s: &[u8]) -> Date
     Date { year, month, day }
 }
 
-// The second of the moment; Nothing where there is no such moment.
+// The second of the moment; None where there is no such moment.
 #[tactic(auto, using(crate::proofs::Moments::no_date, crate::proofs::Moments::no_hour, crate::proofs::Moments::no_minute, crate::proofs::Moments::the_moment))]
 fn moment(date: Date, hour: u32, minute: u32) -> Option<u64>
     ensures { result ≡ moment_of date hour minute }
 {
-    let Some(days) = calendar::days_of(date) else {
-        return None;
-    };
+    let days = calendar::days_of(date)?;
     if 23 < hour || 59 < minute {
         return None;
     }
@@ -85,14 +83,14 @@ fn digit_before(path: &[u8], i: usize) -> bool
     i > 0 && path[i - 1].is_ascii_digit()
 }
 
-#[tactic(auto, using(crate::proofs::Paths::preceded, crate::proofs::Paths::unshaped, crate::proofs::Paths::a_moment, crate::proofs::Paths::no_moment))]
+#[tactic(auto, using(crate::proofs::Paths::preceded, crate::proofs::Paths::unshaped, crate::proofs::Paths::by_moment))]
 fn is_dashed(path: &[u8], i: usize) -> bool
     requires { i ≤ length path.now }
     ensures { result ≡ is_dashed path.now i }
 {
     !digit_before(path, i)
         && has_shape(b"0000-00-00-0000", &path[i..])
-        && matches!(moment_in(&path[i..]), Some(_))
+        && moment_in(&path[i..]).is_some()
 }
 
 #[tactic(auto, using(crate::proofs::Paths::is_dotted_lem))]
@@ -122,9 +120,7 @@ fn first_place<F: Fn(usize) -> bool>(path: &[u8], test: F) -> Option<usize>
 fn noon_in(path: &[u8]) -> Option<u64>
     ensures { result ≡ noon_in path.now }
 {
-    let Some(i) = first_place(path, |i| is_dotted(path, i)) else {
-        return None;
-    };
+    let i = first_place(path, |i| is_dotted(path, i))?;
     moment(date_of(&path[i..]), 12, 0)
 }
 

@@ -1,6 +1,6 @@
 use Rattle.std.proofs.Common.{sym}
 use Rattle.std.proofs.lemmas.Result.{err_from_is_err_and}
-use Rattle.aspath_equivalence.proofs.Routing.{Ensured, first_spoilt, second_spoilt, kept_first, kept_second, left_as_it_was, refused_none, both_left, counted, kinds_left, lengths_left, numbers_left, answered}
+use Rattle.aspath_equivalence.proofs.Routing.{ensured, first_spoilt, second_spoilt, kept_first, kept_second, left_as_it_was, refused_none, both_left, counted, parts_left, answered}
 use Rattle.aspath_equivalence.proofs.has_equivalent_routing.Goals as goal
 
 pub returns-in_err-check : goal.returns-in_err-check
@@ -40,28 +40,18 @@ returns-in_err-second c =
 
 pub new-form-requires : goal.new-form-requires
 new-form-requires c =
-    let e = c.in_ok-first.ensures in
-    let h : Ensured _ _ _ _ _ _ _ _ _ _ = record { value = e.value; kinds = e.kinds; lengths = e.lengths; numbers = e.numbers } in (
-      kinds_left _ _ _ _ _ _ _ _ _ _ h,
-      lengths_left _ _ _ _ _ _ _ _ _ _ h,
-      numbers_left _ _ _ _ _ _ _ _ _ _ h,
-    )
+    let e = c.in_ok-first.ensures in parts_left _ _ _ _ _ _ _ _ _ _ (ensured e.value e.kinds e.lengths e.numbers)
 
 pub new-form2-requires : goal.new-form2-requires
 new-form2-requires c =
-    let e = c.in_ok-second.ensures in
-    let h : Ensured _ _ _ _ _ _ _ _ _ _ = record { value = e.value; kinds = e.kinds; lengths = e.lengths; numbers = e.numbers } in (
-      kinds_left _ _ _ _ _ _ _ _ _ _ h,
-      lengths_left _ _ _ _ _ _ _ _ _ _ h,
-      numbers_left _ _ _ _ _ _ _ _ _ _ h,
-    )
+    let e = c.in_ok-second.ensures in parts_left _ _ _ _ _ _ _ _ _ _ (ensured e.value e.kinds e.lengths e.numbers)
 
 pub returns : goal.returns
 returns c =
     let e = c.in_ok-first.ensures in
     let d = c.in_ok-second.ensures in
-    let h : Ensured _ _ _ _ _ _ _ _ _ _ = record { value = e.value; kinds = e.kinds; lengths = e.lengths; numbers = e.numbers } in
-    let i : Ensured _ _ _ _ _ _ _ _ _ _ = record { value = d.value; kinds = d.kinds; lengths = d.lengths; numbers = d.numbers } in
+    let h = ensured e.value e.kinds e.lengths e.numbers in
+    let i = ensured d.value d.kinds d.lengths d.numbers in
     let f = c.new-form.ensures in
     let g = c.new-form2.ensures in
     let p = (counted _ _ e.value).1 in

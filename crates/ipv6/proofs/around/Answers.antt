@@ -1,11 +1,11 @@
-use borrow.Author.Rules.{rules}
+use Rattle.std.proofs.Common.{arith}
 use Rattle.ipv6.proofs.Sides.{fill_le, around_whole}
 use Rattle.ipv6.proofs.around.Goals as goal
 
-ruleset laws = (fill_le, around_whole)
-
 pub side-requires-3 : goal.side-requires-3
-side-requires-3 c = search (laws, rules)
+side-requires-3 c = fill_le _ _ _ c.side.ensures _ c.in_ok-l.was _ c.side-2.ensures _ c.in_ok-r.was (omega arith) _ c.fill.ensures
 
 pub returns : goal.returns
-returns c = search (laws, rules)
+returns c =
+    around_whole _ _ _ c.side.ensures _ c.in_ok-l.was _ c.side-2.ensures _ c.in_ok-r.was (omega arith) _ c.fill.ensures
+    _ c.side-3.ensures _ c.in_ok-side.was _ c.whole.ensures

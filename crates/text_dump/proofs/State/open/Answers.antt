@@ -1,11 +1,7 @@
 use mathlib.Core.Path.{ap}
 use mathlib.Core.Bool.{not}
-use borrow.Author.Rules.{rules}
-use Rattle.text_dump.proofs.OpenLaws.{no_timestamp, fault_header, fault_columns, has_columns, opens}
+use Rattle.text_dump.proofs.OpenLaws.{fault_header, fault_columns, has_columns, opens}
 use Rattle.text_dump.proofs.State.open.Goals as goal
-
-pub returns-then-not-is_timestamp : goal.returns-then-not-is_timestamp
-returns-then-not-is_timestamp c = search (no_timestamp, rules)
 
 pub returns-in_err-header : goal.returns-in_err-header
 returns-in_err-header c =
