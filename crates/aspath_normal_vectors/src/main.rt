@@ -9,107 +9,59 @@
 use aspath::Spoilt;
 use aspath_equivalence::Equivalence;
 use aspath_normal::Counts;
-use cases::Tally;
-use path_cases::Loaded;
+use cases::{Answer, InHex, Program};
+use path_cases::Lists;
 use std::io;
+use std::io::Write;
 
-// The places that a record is read into.
-#[derive(Drop)]
-struct Lists {
-    kinds: [u8; 64],
-    lengths: [u32; 64],
-    numbers: [u32; 256],
+fn put_counts(counts: Counts, out: &mut Answer) -> io::Result<()> {
+    write!(out, "{} {}", counts.segments, counts.numbers)
 }
 
-impl Lists {
-    fn new() -> Lists {
-        Lists {
-            kinds: [0; 64],
-            lengths: [0; 64],
-            numbers: [0; 256],
-        }
-    }
-
-    // The record whose kinds are the field `at`.
-    fn load(&mut self, line: &[u8], at: usize) -> Loaded {
-        let mut s = [0; 4096];
-        path_cases::load(
-            line,
-            at,
-            &mut self.kinds,
-            &mut s,
-            &mut self.lengths,
-            &mut self.numbers,
-        )
-    }
-
-    // The record of an `all`.
-    fn load_digits(&mut self, line: &[u8]) -> Loaded {
-        let mut s = [0; 4096];
-        path_cases::load_digits(
-            line,
-            &mut self.kinds,
-            &mut s,
-            &mut self.lengths,
-            &mut self.numbers,
-        )
-    }
-}
-
-fn put_counts(out: &mut [u8], at: usize, counts: Counts) -> usize {
-    let k = cases::put_decimal(out, at, counts.segments as u64);
-    let m = cases::put(out, k, b" ");
-    cases::put_decimal(out, m, counts.numbers as u64)
-}
-
-fn put_normalised(out: &mut [u8], at: usize, answer: Result<Counts, Spoilt>) -> usize {
+// 10 is 01's number of a spoilt record.
+fn put_normalised(answer: Result<Counts, Spoilt>, out: &mut Answer) -> io::Result<()> {
     match answer {
-        Ok(counts) => put_counts(out, at, counts),
-        Err(Spoilt) => path_cases::refused(out, at, 10),
+        Ok(counts) => put_counts(counts, out),
+        Err(Spoilt) => write!(out, "refused 10"),
     }
 }
 
-fn put_equivalence(out: &mut [u8], answer: Result<Equivalence, Spoilt>) -> usize {
+fn put_equivalence(answer: Result<Equivalence, Spoilt>, out: &mut Answer) -> io::Result<()> {
     match answer {
         Ok(found) => {
-            let k = cases::put_yes_no(out, 0, found.equivalent);
-            let m = cases::put(out, k, b" ");
-            let p = put_counts(out, m, found.first);
-            let q = cases::put(out, p, b" ");
-            put_counts(out, q, found.second)
+            write!(out, "{} ", cases::yes_no(found.equivalent))?;
+            put_counts(found.first, out)?;
+            write!(out, " ")?;
+            put_counts(found.second, out)
         }
-        Err(Spoilt) => path_cases::refused(out, 0, 10),
+        Err(Spoilt) => write!(out, "refused 10"),
     }
 }
 
 fn put_record(
-    out: &mut [u8],
-    at: usize,
-    mark: &[u8],
+    mark: &str,
     kinds: &[u8],
     lengths: &[u32],
     numbers: &[u32],
-) -> usize {
-    let k = cases::put(out, at, b" ");
-    let m = cases::put_hex(out, k, kinds);
-    let p = cases::put(out, m, b" ");
-    let q = cases::put_places(out, p, mark, lengths);
-    let r = cases::put(out, q, b" ");
-    cases::put_places(out, r, mark, numbers)
+    out: &mut Answer,
+) -> io::Result<()> {
+    write!(out, " {} ", InHex(kinds))?;
+    cases::put_places(mark, lengths, out)?;
+    write!(out, " ")?;
+    cases::put_places(mark, numbers, out)
 }
 
-// What a call answers of the record in the lists, and what it leaves in them.
+// What a call answers of the record, and what it leaves in its lists.
 fn answer_call<F: Fn(&mut [u8], &mut [u32], &mut [u32], usize, usize) -> Result<Counts, Spoilt>>(
     call: F,
     line: &[u8],
-    lists: &mut Lists,
-    n: Loaded,
-    out: &mut [u8],
-    at: usize,
-    mark: &[u8],
-) -> usize
+    mut lists: Lists,
+    mark: &str,
+    out: &mut Answer,
+) -> io::Result<()>
     requires { F.IsAlwaysCallable call }
 {
+    let n = lists.loaded;
     let kinds = path_cases::first_bytes(&mut lists.kinds, n.kinds);
     let lengths = cases::first_places(&mut lists.lengths, n.lengths);
     let numbers = cases::first_places(&mut lists.numbers, n.numbers);
@@ -120,8 +72,8 @@ fn answer_call<F: Fn(&mut [u8], &mut [u32], &mut [u32], usize, usize) -> Result<
         cases::number(line, 4),
         cases::number(line, 5),
     );
-    let k = put_normalised(out, at, answer);
-    put_record(out, k, mark, kinds, lengths, numbers)
+    put_normalised(answer, out)?;
+    put_record(mark, kinds, lengths, numbers, out)
 }
 
 // The numbers are lent shared: it moves none.
@@ -135,17 +87,18 @@ fn coalesce(
     aspath_normal::coalesce(kinds, lengths, numbers, segments, count)
 }
 
-fn answer_all(line: &[u8], lists: &mut Lists, out: &mut [u8]) -> usize {
-    let n = lists.load_digits(line);
-    let k = answer_call(coalesce, line, lists, n, out, 0, b"");
-    let m = cases::put(out, k, b"|");
-    let n = lists.load_digits(line);
-    answer_call(aspath_normal::dedup_coalesce, line, lists, n, out, m, b"")
+fn answer_all(line: &[u8], out: &mut Answer) -> io::Result<()> {
+    answer_call(coalesce, line, path_cases::load_digits(line), "", out)?;
+    write!(out, "|")?;
+    let lists = path_cases::load_digits(line);
+    answer_call(aspath_normal::dedup_coalesce, line, lists, "", out)
 }
 
-fn answer_equivalent(line: &[u8], first: &mut Lists, second: &mut Lists, out: &mut [u8]) -> usize {
-    let n = first.load(line, 1);
-    let n2 = second.load(line, 6);
+fn answer_equivalent(line: &[u8], out: &mut Answer) -> io::Result<()> {
+    let mut first = path_cases::load(line, 1);
+    let mut second = path_cases::load(line, 6);
+    let n = first.loaded;
+    let n2 = second.loaded;
     let kinds = path_cases::first_bytes(&mut first.kinds, n.kinds);
     let lengths = cases::first_places(&mut first.lengths, n.lengths);
     let numbers = cases::first_places(&mut first.numbers, n.numbers);
@@ -164,52 +117,32 @@ fn answer_equivalent(line: &[u8], first: &mut Lists, second: &mut Lists, out: &m
         cases::number(line, 9),
         cases::number(line, 10),
     );
-    let k = put_equivalence(out, answer);
-    let m = put_record(out, k, b",", kinds, lengths, numbers);
-    put_record(out, m, b",", kinds2, lengths2, numbers2)
+    put_equivalence(answer, out)?;
+    put_record(",", kinds, lengths, numbers, out)?;
+    put_record(",", kinds2, lengths2, numbers2, out)
 }
 
-fn answer(line: &[u8], first: &mut Lists, second: &mut Lists, out: &mut [u8]) -> usize {
-    let name = cases::field(line, 0);
-    if name == b"all".as_slice() {
-        answer_all(line, first, out)
-    } else if name.starts_with(b"equivalent") {
-        answer_equivalent(line, first, second, out)
-    } else if name.starts_with(b"coalesce") {
-        let n = first.load(line, 1);
-        answer_call(coalesce, line, first, n, out, 0, b",")
-    } else if name.starts_with(b"dedup_coalesce") {
-        let n = first.load(line, 1);
-        answer_call(aspath_normal::dedup_coalesce, line, first, n, out, 0, b",")
-    } else {
-        0
+struct NormalCases;
+
+impl Program for NormalCases {
+    fn answer(&self, line: &[u8], out: &mut Answer) -> io::Result<()> {
+        let name = cases::field(line, 0);
+        if name == b"all".as_slice() {
+            answer_all(line, out)
+        } else if name.starts_with(b"equivalent") {
+            answer_equivalent(line, out)
+        } else if name.starts_with(b"coalesce") {
+            answer_call(coalesce, line, path_cases::load(line, 1), ",", out)
+        } else if name.starts_with(b"dedup_coalesce") {
+            let lists = path_cases::load(line, 1);
+            answer_call(aspath_normal::dedup_coalesce, line, lists, ",", out)
+        } else {
+            Ok(())
+        }
     }
-}
-
-fn turn(rt: &impl Print, t: Tally, list: &[u8], at: usize) -> io::Result<Tally> {
-    let mut first = Lists::new();
-    let mut second = Lists::new();
-    let mut out = [0; 4096];
-    let line = cases::line(list, at);
-    let k = answer(line, &mut first, &mut second, &mut out);
-    cases::count(rt, t, list, at, cases::part(&out, 0, k))
-}
-
-fn run(rt: &impl Print, list: &[u8]) -> io::Result<()> {
-    let mut t = cases::start();
-    let mut at = 0;
-    // Stays a while: a turn goes on to the next line, which no range says.
-    while at < list.len() {
-        t = turn(rt, t, list, at)?;
-        at = cases::after(list, at);
-    }
-    cases::report(rt, t, list)
 }
 
 fn main(rt: HostRuntime) -> io::Result<()> {
-    let mut list = cases::list_buffer();
-    let n = cases::load(&rt, &mut list)?;
-    run(&rt, &list[..n])?;
-    let m = cases::read_file(&rt, "three.txt", &mut list)?;
-    run(&rt, &list[..m])
+    cases::run(&rt, "cases.txt", &NormalCases)?;
+    cases::run(&rt, "three.txt", &NormalCases)
 }

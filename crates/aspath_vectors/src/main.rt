@@ -10,9 +10,10 @@
 use aspath::{PathRecord, Spoilt, VariationsError};
 use aspath_display::DisplayError;
 use aspath_routes::{NumbersError, RouteError};
-use cases::Tally;
-use path_cases::Loaded;
+use cases::{Answer, InHex, Program};
+use path_cases::Lists;
 use std::io;
+use std::io::Write;
 
 // 01's number of a refusal.
 trait Refusal: Copy {
@@ -63,165 +64,174 @@ impl Refusal for DisplayError {
     }
 }
 
-fn put_refusal<E: Refusal>(out: &mut [u8], at: usize, e: E) -> usize {
-    path_cases::refused(out, at, e.number())
+fn put_refusal<E: Refusal>(e: E, out: &mut Answer) -> io::Result<()> {
+    write!(out, "refused {}", e.number())
 }
 
-fn put_count<E: Refusal>(out: &mut [u8], at: usize, r: Result<usize, E>) -> usize {
+fn put_count<E: Refusal>(r: Result<usize, E>, out: &mut Answer) -> io::Result<()> {
     match r {
-        Ok(n) => cases::put_decimal(out, at, n as u64),
-        Err(e) => put_refusal(out, at, e),
+        Ok(n) => write!(out, "{n}"),
+        Err(e) => put_refusal(e, out),
     }
 }
 
-fn put_variations(out: &mut [u8], at: usize, r: Result<u64, VariationsError>) -> usize {
+fn put_variations(r: Result<u64, VariationsError>, out: &mut Answer) -> io::Result<()> {
     match r {
-        Ok(n) => cases::put_decimal(out, at, n),
-        Err(e) => put_refusal(out, at, e),
+        Ok(n) => write!(out, "{n}"),
+        Err(e) => put_refusal(e, out),
     }
 }
 
-fn put_contains(out: &mut [u8], at: usize, r: Result<bool, Spoilt>) -> usize {
+fn put_contains(r: Result<bool, Spoilt>, out: &mut Answer) -> io::Result<()> {
     match r {
-        Ok(yes) => cases::put_yes_no(out, at, yes),
-        Err(e) => put_refusal(out, at, e),
+        Ok(yes) => write!(out, "{}", cases::yes_no(yes)),
+        Err(e) => put_refusal(e, out),
     }
 }
 
-fn put_end(out: &mut [u8], at: usize, r: Result<Option<u32>, Spoilt>) -> usize {
+fn put_end(r: Result<Option<u32>, Spoilt>, out: &mut Answer) -> io::Result<()> {
     match r {
-        Ok(Some(n)) => cases::put_decimal(out, at, u64::from(n)),
-        Ok(None) => cases::put(out, at, b"none"),
-        Err(e) => put_refusal(out, at, e),
+        Ok(Some(n)) => write!(out, "{n}"),
+        Ok(None) => write!(out, "none"),
+        Err(e) => put_refusal(e, out),
     }
 }
 
-fn put_vec(out: &mut [u8], at: usize, r: Result<Option<usize>, NumbersError>) -> usize {
+fn put_vec(r: Result<Option<usize>, NumbersError>, out: &mut Answer) -> io::Result<()> {
     match r {
-        Ok(Some(n)) => cases::put_decimal(out, at, n as u64),
-        Ok(None) => cases::put(out, at, b"none"),
-        Err(e) => put_refusal(out, at, e),
+        Ok(Some(n)) => write!(out, "{n}"),
+        Ok(None) => write!(out, "none"),
+        Err(e) => put_refusal(e, out),
     }
 }
 
-// A call that only reads.
-fn ask(name: &[u8], record: PathRecord, arg: usize, out: &mut [u8]) -> usize {
+// A call that reads, or else writes numbers to the places.
+fn ask(
+    name: &[u8],
+    record: PathRecord,
+    arg: usize,
+    places: &mut [u32],
+    out: &mut Answer,
+) -> io::Result<()> {
     if scan::starts_with(name, b"route_len") {
-        return put_count(out, 0, record.route_len());
+        return put_count(record.route_len(), out);
     }
     if scan::starts_with(name, b"variations") {
-        return put_variations(out, 0, record.num_route_variations());
+        return put_variations(record.num_route_variations(), out);
     }
     if scan::starts_with(name, b"contains") {
         let asn = (arg % 4294967296) as u32;
-        return put_contains(out, 0, aspath_numbers::contains_asn(record, asn));
+        return put_contains(aspath_numbers::contains_asn(record, asn), out);
     }
     if scan::starts_with(name, b"origin") {
-        return put_end(out, 0, aspath_numbers::get_origin_opt(record));
+        return put_end(aspath_numbers::get_origin_opt(record), out);
     }
     if scan::starts_with(name, b"collector") {
-        return put_end(out, 0, aspath_numbers::get_collector_opt(record));
+        return put_end(aspath_numbers::get_collector_opt(record), out);
     }
-    0
+    write(name, record, arg, places, out)
 }
 
 // A call that writes numbers to the places.
-fn write(name: &[u8], record: PathRecord, arg: usize, places: &mut [u32], out: &mut [u8]) -> usize {
+fn write(
+    name: &[u8],
+    record: PathRecord,
+    arg: usize,
+    places: &mut [u32],
+    out: &mut Answer,
+) -> io::Result<()> {
     if scan::starts_with(name, b"u32vec") {
         let r = aspath_routes::to_u32_vec_opt(record, arg == 1, places);
-        let k = put_vec(out, 0, r);
-        return cases::put_places(out, k, b",", places);
+        put_vec(r, out)?;
+        return cases::put_places(",", places, out);
     }
     if scan::starts_with(name, b"route") {
         let r = aspath_routes::numbered_route(record, arg as u64, places);
-        let k = put_count(out, 0, r);
-        return cases::put_places(out, k, b",", places);
+        put_count(r, out)?;
+        return cases::put_places(",", places, out);
     }
-    0
+    Ok(())
 }
 
 // Display: the answer, and all bytes that were lent.
-fn show(record: PathRecord, bytes: &mut [u8], out: &mut [u8]) -> usize {
+fn show(record: PathRecord, bytes: &mut [u8], out: &mut Answer) -> io::Result<()> {
     let r = aspath_display::display(record, bytes);
-    let k = put_count(out, 0, r);
-    let m = cases::put(out, k, b" ");
-    cases::put_hex(out, m, bytes)
+    put_count(r, out)?;
+    write!(out, " {}", InHex(bytes))
 }
 
 // What `all` asks, in this order: route_len, num_route_variations; contains_asn of 1 and of 2;
 // get_origin_opt, get_collector_opt; to_u32_vec_opt without and with dedup; Display; every route,
 // and the one behind the last.
-fn all_counts(record: PathRecord, out: &mut [u8]) -> usize {
-    let k = put_count(out, 0, record.route_len());
-    let m = cases::put(out, k, b"|");
-    put_variations(out, m, record.num_route_variations())
+fn all_counts(record: PathRecord, out: &mut Answer) -> io::Result<()> {
+    put_count(record.route_len(), out)?;
+    write!(out, "|")?;
+    put_variations(record.num_route_variations(), out)
 }
 
-fn all_contains(record: PathRecord, asn: u32, out: &mut [u8], at: usize) -> usize {
-    let k = cases::put(out, at, b"|");
-    put_contains(out, k, aspath_numbers::contains_asn(record, asn))
+fn all_contains(record: PathRecord, asn: u32, out: &mut Answer) -> io::Result<()> {
+    write!(out, "|")?;
+    put_contains(aspath_numbers::contains_asn(record, asn), out)
 }
 
-fn all_ends(record: PathRecord, out: &mut [u8], at: usize) -> usize {
-    let k = cases::put(out, at, b"|");
-    let m = put_end(out, k, aspath_numbers::get_origin_opt(record));
-    let p = cases::put(out, m, b"|");
-    put_end(out, p, aspath_numbers::get_collector_opt(record))
+fn all_ends(record: PathRecord, out: &mut Answer) -> io::Result<()> {
+    write!(out, "|")?;
+    put_end(aspath_numbers::get_origin_opt(record), out)?;
+    write!(out, "|")?;
+    put_end(aspath_numbers::get_collector_opt(record), out)
 }
 
-fn all_reading(record: PathRecord, out: &mut [u8]) -> usize {
-    let k = all_counts(record, out);
-    let m = all_contains(record, 1, out, k);
-    let p = all_contains(record, 2, out, m);
-    all_ends(record, out, p)
+fn all_reading(record: PathRecord, out: &mut Answer) -> io::Result<()> {
+    all_counts(record, out)?;
+    all_contains(record, 1, out)?;
+    all_contains(record, 2, out)?;
+    all_ends(record, out)
 }
 
-fn put_written(out: &mut [u8], at: usize, places: &[u32], n: usize) -> usize {
-    let k = cases::put(out, at, b" ");
-    cases::put_places(out, k, b"", path_cases::first_numbers(places, n))
+fn put_written(places: &[u32], n: usize, out: &mut Answer) -> io::Result<()> {
+    write!(out, " ")?;
+    cases::put_places("", path_cases::first_numbers(places, n), out)
 }
 
 fn all_vec(
     record: PathRecord,
     dedup: bool,
     places: &mut [u32],
-    out: &mut [u8],
-    at: usize,
-) -> usize {
-    let k = cases::put(out, at, b"|");
+    out: &mut Answer,
+) -> io::Result<()> {
+    write!(out, "|")?;
     let r = aspath_routes::to_u32_vec_opt(record, dedup, places);
-    let m = put_vec(out, k, r);
+    put_vec(r, out)?;
     let Ok(Some(n)) = r else {
-        return m;
+        return Ok(());
     };
-    put_written(out, m, places, n)
+    put_written(places, n, out)
 }
 
-fn all_shown(record: PathRecord, bytes: &mut [u8], out: &mut [u8], at: usize) -> usize {
-    let k = cases::put(out, at, b"|");
+fn all_shown(record: PathRecord, bytes: &mut [u8], out: &mut Answer) -> io::Result<()> {
+    write!(out, "|")?;
     let r = aspath_display::display(record, bytes);
     let Ok(n) = r else {
-        return put_count(out, k, r);
+        return put_count(r, out);
     };
-    cases::put(out, k, cases::part(bytes, 0, n))
+    out.write_all(cases::part(bytes, 0, n))
 }
 
 fn all_route(
     record: PathRecord,
     number: u64,
     places: &mut [u32],
-    out: &mut [u8],
-    at: usize,
-) -> usize {
-    let k = cases::put(out, at, b"|");
+    out: &mut Answer,
+) -> io::Result<()> {
+    write!(out, "|")?;
     let r = aspath_routes::numbered_route(record, number, places);
     match r {
         Ok(n) => {
-            let m = put_count(out, k, r);
-            put_written(out, m, places, n)
+            put_count(r, out)?;
+            put_written(places, n, out)
         }
-        Err(RouteError::NoSuchRoute) => cases::put(out, k, b"-"),
-        Err(_) => put_count(out, k, r),
+        Err(RouteError::NoSuchRoute) => write!(out, "-"),
+        Err(_) => put_count(r, out),
     }
 }
 
@@ -233,141 +243,67 @@ fn routes_asked(r: Result<u64, VariationsError>) -> u64 {
     }
 }
 
-fn all_written(record: PathRecord, places: &mut [u32], out: &mut [u8], at: usize) -> usize {
-    let mut k = at;
+fn all_written(record: PathRecord, places: &mut [u32], out: &mut Answer) -> io::Result<()> {
     for number in 0..routes_asked(record.num_route_variations()) {
-        k = all_route(record, number, places, out, k);
+        all_route(record, number, places, out)?;
     }
-    let m = cases::put(out, k, b"|");
-    cases::put_places(out, m, b"", places)
+    write!(out, "|")?;
+    cases::put_places("", places, out)
 }
 
-fn all(record: PathRecord, places: &mut [u32], bytes: &mut [u8], out: &mut [u8]) -> usize {
-    let k = all_reading(record, out);
-    let m = all_vec(record, false, places, out, k);
-    let p = all_vec(record, true, places, out, m);
-    let q = all_shown(record, bytes, out, p);
-    all_written(record, places, out, q)
-}
-
-fn answer(
-    line: &[u8],
+fn all(
     record: PathRecord,
     places: &mut [u32],
     bytes: &mut [u8],
-    out: &mut [u8],
-) -> usize {
-    let name = cases::field(line, 0);
-    let arg = cases::number(line, 6);
-    let room = cases::number(line, 7);
-    if scan::same(name, b"all") {
-        return all(
-            record,
-            cases::first_places(places, room),
-            path_cases::first_bytes(bytes, arg),
-            out,
-        );
-    }
-    let k = ask(name, record, arg, out);
-    if k != 0 {
-        return k;
-    }
-    if scan::starts_with(name, b"display") {
-        return show(record, path_cases::first_bytes(bytes, room), out);
-    }
-    write(name, record, arg, cases::first_places(places, room), out)
+    out: &mut Answer,
+) -> io::Result<()> {
+    all_reading(record, out)?;
+    all_vec(record, false, places, out)?;
+    all_vec(record, true, places, out)?;
+    all_shown(record, bytes, out)?;
+    all_written(record, places, out)
 }
 
-fn load_any(
-    line: &[u8],
-    kinds: &mut [u8],
-    s: &mut [u8],
-    lengths: &mut [u32],
-    numbers: &mut [u32],
-) -> Loaded {
+fn load(line: &[u8]) -> Lists {
     if scan::same(cases::field(line, 0), b"all") {
-        return path_cases::load_digits(line, kinds, s, lengths, numbers);
+        return path_cases::load_digits(line);
     }
-    path_cases::load(line, 1, kinds, s, lengths, numbers)
+    path_cases::load(line, 1)
 }
 
-fn counted(
-    rt: &impl Print,
-    t: Tally,
-    list: &[u8],
-    at: usize,
-    record: PathRecord,
-    places: &mut [u32],
-    bytes: &mut [u8],
-    out: &mut [u8],
-) -> io::Result<Tally> {
-    let k = answer(cases::line(list, at), record, places, bytes, out);
-    cases::count(rt, t, list, at, cases::part(out, 0, k))
-}
-
-fn one(
-    rt: &impl Print,
-    t: Tally,
-    list: &[u8],
-    at: usize,
-    kinds: &mut [u8],
-    s: &mut [u8],
-    lengths: &mut [u32],
-    numbers: &mut [u32],
-    places: &mut [u32],
-    bytes: &mut [u8],
-    out: &mut [u8],
-) -> io::Result<Tally> {
-    let line = cases::line(list, at);
-    let n = load_any(line, kinds, s, lengths, numbers);
-    let record = PathRecord {
-        kinds: cases::part(kinds, 0, n.kinds),
-        lengths: path_cases::first_numbers(lengths, n.lengths),
-        numbers: path_cases::first_numbers(numbers, n.numbers),
+fn record_of<'a>(lists: &'a Lists, line: &[u8]) -> PathRecord<'a> {
+    PathRecord {
+        kinds: cases::part(&lists.kinds, 0, lists.loaded.kinds),
+        lengths: path_cases::first_numbers(&lists.lengths, lists.loaded.lengths),
+        numbers: path_cases::first_numbers(&lists.numbers, lists.loaded.numbers),
         segments: cases::number(line, 4),
         count: cases::number(line, 5),
-    };
-    counted(rt, t, list, at, record, places, bytes, out)
-}
-
-fn turn(rt: &impl Print, t: Tally, list: &[u8], at: usize) -> io::Result<Tally> {
-    let mut kinds = [0u8; 64];
-    let mut s = [0; 4096];
-    let mut lengths = [0u32; 64];
-    let mut numbers = [0u32; 256];
-    let mut places = [7u32; 300];
-    let mut bytes = [0; 4096];
-    let mut out = [0; 4096];
-    one(
-        rt,
-        t,
-        list,
-        at,
-        &mut kinds,
-        &mut s,
-        &mut lengths,
-        &mut numbers,
-        &mut places,
-        &mut bytes,
-        &mut out,
-    )
-}
-
-fn run(rt: &impl Print, list: &[u8]) -> io::Result<()> {
-    let mut t = cases::start();
-    let mut at = 0;
-    // Stays a while: a case's end is found in its text, by cases::after.
-    while at < list.len() {
-        t = turn(rt, t, list, at)?;
-        at = cases::after(list, at);
     }
-    cases::report(rt, t, list)
+}
+
+struct PathCases;
+
+impl Program for PathCases {
+    fn answer(&self, line: &[u8], out: &mut Answer) -> io::Result<()> {
+        let lists = load(line);
+        let record = record_of(&lists, line);
+        let name = cases::field(line, 0);
+        let arg = cases::number(line, 6);
+        let room = cases::number(line, 7);
+        let mut places = [7; 300];
+        let mut bytes = [0; 4096];
+        let lent = cases::first_places(&mut places, room);
+        if scan::same(name, b"all") {
+            return all(record, lent, path_cases::first_bytes(&mut bytes, arg), out);
+        }
+        if scan::starts_with(name, b"display") {
+            return show(record, path_cases::first_bytes(&mut bytes, room), out);
+        }
+        ask(name, record, arg, lent, out)
+    }
 }
 
 fn main(rt: HostRuntime) -> io::Result<()> {
-    let mut list = cases::list_buffer();
-    let n = cases::load(&rt, &mut list)?;
-    run(&rt, &list[..n])?;
-    let m = cases::read_file(&rt, "three.txt", &mut list)?;
-    run(&rt, &list[..m])
+    cases::run(&rt, "cases.txt", &PathCases)?;
+    cases::run(&rt, "three.txt", &PathCases)
 }

@@ -23,7 +23,6 @@ answer_of s = drop (end_while not_tab s 0 + 1) s
 unfoldable pub counted : Tally → Bool → Tally
 counted t right =
     record {
-      line = t.line;
       cases = (t.cases + 1) % 2 ^ 64;
       mismatches = cond right t.mismatches ((t.mismatches + 1) % 2 ^ 64);
     }

@@ -14,7 +14,7 @@ ghost use Rattle.scan.specs.Search.{equal};
 ghost use Rattle.cases.specs.Cases.{part_of, float_of, answer_of, counted};
 
 use std::fs::File;
-use std::io::{Cursor, Read};
+use std::io::{Cursor, Read, Write};
 use std::rt::Files;
 use std::{fmt, io};
 
@@ -55,13 +55,6 @@ pub fn read_file<R: Files>(rt: &R, name: &str, out: &mut [u8]) -> io::Result<usi
     read_full(&mut file, out)
 }
 
-// Reads the list, the file cases.txt, into an array of 2 MiB: how many bytes.
-pub fn load<R: Files>(rt: &R, list: &mut [u8; LIST]) -> io::Result<usize>
-    ensures { ReadsAtMost result list.new }
-{
-    read_file(rt, "cases.txt", list)
-}
-
 // The part a..e, empty where there is none.
 pub fn part(s: &[u8], a: usize, e: usize) -> &[u8]
     ensures { result.now ≡ part_of s.now a e }
@@ -70,19 +63,6 @@ pub fn part(s: &[u8], a: usize, e: usize) -> &[u8]
         Some(part) => part,
         None => &[],
     }
-}
-
-// Where the next line starts: further on, as long as there is one.
-pub fn after(list: &[u8], at: usize) -> usize
-    ensures { at < length list.now → at < result }
-{
-    scan::line_end(list, at)
-}
-
-// The line that starts at `at`, its line feed left out.
-pub fn line(list: &[u8], at: usize) -> &[u8] {
-    let line = part(list, at, scan::line_end(list, at));
-    line.strip_suffix(b"\n").unwrap_or(line)
 }
 
 fn is_case(line: &[u8]) -> bool {
@@ -170,43 +150,12 @@ impl fmt::Display for InHex<'_> {
     }
 }
 
-// s put into out from `at` on, as far as there is room: where it ends.
-pub fn put(out: &mut [u8], at: usize, s: &[u8]) -> usize {
-    if out.len() <= at {
-        return at;
-    }
-    let n = s.len().min(out.len() - at);
-    out[at..at + n].copy_from_slice(&s[..n]);
-    at + n
-}
-
-// The same for s in hexadecimal, '-' for no bytes.
-pub fn put_hex(out: &mut [u8], at: usize, s: &[u8]) -> usize {
-    const DIGITS: [u8; 16] = *b"0123456789abcdef";
-    if s.is_empty() {
-        return put(out, at, b"-");
-    }
-    let mut n = at;
-    for b in s {
-        let pair = [DIGITS[usize::from(*b / 16)], DIGITS[usize::from(*b % 16)]];
-        n = put(out, n, &pair);
-    }
-    n
-}
-
-// n in decimal.
-pub fn put_decimal(out: &mut [u8], at: usize, n: u64) -> usize {
-    decimal_display::write_u64(n, out, at)
-}
-
 // What all places of a lent list hold, each in decimal behind the mark.
-pub fn put_places(out: &mut [u8], at: usize, mark: &[u8], places: &[u32]) -> usize {
-    let mut k = at;
+pub fn put_places(mark: &str, places: &[u32], out: &mut Answer) -> io::Result<()> {
     for place in places {
-        k = put(out, k, mark);
-        k = decimal_display::write_u32(*place, out, k);
+        write!(out, "{mark}{place}")?;
     }
-    k
+    Ok(())
 }
 
 // The first n places of a list, all where there are fewer.
@@ -222,32 +171,26 @@ pub fn yes_no(yes: bool) -> &'static str
     if yes { "yes" } else { "no" }
 }
 
-pub fn put_yes_no(out: &mut [u8], at: usize, yes: bool) -> usize {
-    put(out, at, yes_no(yes).as_bytes())
-}
-
-// What is counted of the group at hand, one of whose lines starts at `line`.
+// What is counted of the group at hand.
 #[derive(Clone, Copy)]
 pub struct Tally {
-    pub line: usize,
     pub cases: u64,
     pub mismatches: u64,
 }
 
 pub fn start() -> Tally {
     Tally {
-        line: 0,
         cases: 0,
         mismatches: 0,
     }
 }
 
 // Prints the group's line, where it has cases.
-pub fn report(rt: &impl Print, t: Tally, list: &[u8]) -> io::Result<()> {
+pub fn report(rt: &impl Print, t: Tally, name: &[u8]) -> io::Result<()> {
     if t.cases == 0 {
         return Ok(());
     }
-    rt.write_all(field(line(list, t.line), 0))?;
+    rt.write_all(name)?;
     println!(rt; ": {} cases, {} mismatches", t.cases, t.mismatches)
 }
 
@@ -257,18 +200,6 @@ fn print_mismatch(rt: &impl Print, line: &[u8], got: &[u8]) -> io::Result<()> {
     rt.write_all(b"\n     got: ")?;
     rt.write_all(got)?;
     rt.write_all(b"\n")
-}
-
-// The group at hand is printed where the case begins another.
-fn group(rt: &impl Print, t: Tally, list: &[u8], at: usize) -> io::Result<Tally> {
-    if field(line(list, t.line), 0) == field(line(list, at), 0) {
-        return Ok(t);
-    }
-    report(rt, t, list)?;
-    Ok(Tally {
-        line: at,
-        ..start()
-    })
 }
 
 // A case and the program's answer to it, counted; a mismatch is printed.
@@ -285,16 +216,6 @@ fn judged(rt: &impl Print, t: Tally, case: &[u8], got: &[u8]) -> io::Result<Tall
         mismatches: t.mismatches.wrapping_add(1),
         ..t
     })
-}
-
-// The case at `at`, to which the program answers `got`. A comment is passed over.
-pub fn count(rt: &impl Print, t: Tally, list: &[u8], at: usize, got: &[u8]) -> io::Result<Tally> {
-    let case = line(list, at);
-    if is_case(case) {
-        judged(rt, group(rt, t, list, at)?, case, got)
-    } else {
-        Ok(t)
-    }
 }
 
 // Where a program writes its answer.

@@ -21,8 +21,7 @@ pub fn body_at(cut: Cut, i: usize) -> usize {
 
 // The i-th part; no bytes where there is none.
 pub fn part(text: &[u8], cut: Cut, i: usize) -> &[u8] {
-    let places = cut.places;
-    match places.get(i..) {
+    match cut.places.get(i..) {
         Some([from, to, ..]) => cases::part(text, *from, *to),
         _ => &[],
     }
@@ -78,8 +77,7 @@ pub fn by_chance(text: &[u8], header: usize, seed: u64, line_ends: bool) -> Cut 
 
 // Where the parts but the first begin.
 pub fn print(rt: &impl Print, cut: Cut) -> io::Result<()> {
-    let places = cut.places;
-    for place in places.iter().take(cut.parts).skip(1) {
+    for place in cut.places.iter().take(cut.parts).skip(1) {
         print!(rt; " {place}")?;
     }
     println!(rt; "")

@@ -2,12 +2,16 @@
 #![tactic(auto)]
 
 use cases::{Answer, InHex, Program};
-use output::PutError;
+use output::{PutError, Writer};
 use std::io;
 use std::io::Write;
 
 // Room for a number as it is printed.
 const TEXT: usize = 32;
+
+fn writer(text: &mut [u8]) -> Writer {
+    Writer { out: text, at: 0 }
+}
 
 // The number as `decimal_display` prints it.
 fn put_u32(r: Option<u32>, out: &mut Answer) -> io::Result<()> {
@@ -15,8 +19,10 @@ fn put_u32(r: Option<u32>, out: &mut Answer) -> io::Result<()> {
         return write!(out, "none");
     };
     let mut text = [0; TEXT];
-    let k = decimal_display::write_u32(n, &mut text, 0);
-    out.write_all(cases::part(&text, 0, k))
+    let mut w = writer(&mut text);
+    decimal_display::write_u32(n, &mut w);
+    let k = w.at;
+    out.write_all(cases::part(w.out, 0, k))
 }
 
 fn put_u64(r: Option<u64>, out: &mut Answer) -> io::Result<()> {
@@ -24,14 +30,18 @@ fn put_u64(r: Option<u64>, out: &mut Answer) -> io::Result<()> {
         return write!(out, "none");
     };
     let mut text = [0; TEXT];
-    let k = decimal_display::write_u64(n, &mut text, 0);
-    out.write_all(cases::part(&text, 0, k))
+    let mut w = writer(&mut text);
+    decimal_display::write_u64(n, &mut w);
+    let k = w.at;
+    out.write_all(cases::part(w.out, 0, k))
 }
 
 fn put_difference(a: u64, b: u64, out: &mut Answer) -> io::Result<()> {
     let mut text = [0; TEXT];
-    let k = decimal_display::write_difference(a, b, &mut text, 0);
-    out.write_all(cases::part(&text, 0, k))
+    let mut w = writer(&mut text);
+    decimal_display::write_difference(a, b, &mut w);
+    let k = w.at;
+    out.write_all(cases::part(w.out, 0, k))
 }
 
 // The place that a writer answered, and the list after it.
@@ -47,33 +57,18 @@ fn put_answer(r: Result<usize, PutError>, list: &[u8], out: &mut Answer) -> io::
 }
 
 // What is written into a list at a place: the bytes s, the number n, or its last byte.
-fn put_list(
-    name: &[u8],
-    s: &[u8],
-    n: u64,
-    list: &mut [u8],
-    at: usize,
-    out: &mut Answer,
-) -> io::Result<()> {
+fn put_list(name: &[u8], s: &[u8], n: u64, w: &mut Writer, out: &mut Answer) -> io::Result<()> {
     match name {
         b"put" => {
-            let r = decimal_display::put_u64(n, list);
-            put_answer(r, list, out)
+            let r = decimal_display::put_u64(n, w.out);
+            return put_answer(r, w.out, out);
         }
-        b"write" => {
-            let r = decimal_display::write_u64(n, list, at);
-            put_written(r, list, out)
-        }
-        b"write_bytes" => {
-            let r = output::write_bytes(s, list, at);
-            put_written(r, list, out)
-        }
-        b"write_byte" => {
-            let r = output::write_byte((n % 256) as u8, list, at);
-            put_written(r, list, out)
-        }
-        _ => Ok(()),
+        b"write" => decimal_display::write_u64(n, w),
+        b"write_bytes" => w.bytes(s),
+        b"write_byte" => w.byte((n % 256) as u8),
+        _ => return Ok(()),
     }
+    put_written(w.at, w.out, out)
 }
 
 struct DecimalCases;
@@ -97,8 +92,11 @@ impl Program for DecimalCases {
             b"difference_len" => write!(out, "{}", decimal_display::difference_len(a, b as u64)),
             _ => {
                 let mut room = [b'.'; 64];
-                let list = &mut room[..b.min(64)];
-                put_list(name, s, a, list, cases::number(line, 3), out)
+                let mut w = Writer {
+                    out: &mut room[..b.min(64)],
+                    at: cases::number(line, 3),
+                };
+                put_list(name, s, a, &mut w, out)
             }
         }
     }

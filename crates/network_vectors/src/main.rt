@@ -3,12 +3,16 @@
 
 use cases::{Answer, InHex, Program};
 use network::{IpAddr, NetworkPrefix};
-use output::PutError;
+use output::{PutError, Writer};
 use std::io;
 use std::io::Write;
 
 // Room for an address or a prefix as it is printed.
 const TEXT: usize = 128;
+
+fn writer(text: &mut [u8]) -> Writer {
+    Writer { out: text, at: 0 }
+}
 
 // The address that s says, printed.
 fn put_read_address(s: &[u8], out: &mut Answer) -> io::Result<()> {
@@ -16,8 +20,10 @@ fn put_read_address(s: &[u8], out: &mut Answer) -> io::Result<()> {
         return write!(out, "none");
     };
     let mut text = [0; TEXT];
-    let n = network_display::write_address(a, &mut text, 0);
-    out.write_all(cases::part(&text, 0, n))
+    let mut w = writer(&mut text);
+    network_display::write_address(a, &mut w);
+    let k = w.at;
+    out.write_all(cases::part(w.out, 0, k))
 }
 
 fn put_read_prefix(s: &[u8], out: &mut Answer) -> io::Result<()> {
@@ -25,8 +31,10 @@ fn put_read_prefix(s: &[u8], out: &mut Answer) -> io::Result<()> {
         return write!(out, "none");
     };
     let mut text = [0; TEXT];
-    let n = network_display::write_prefix(p, &mut text, 0);
-    out.write_all(cases::part(&text, 0, n))
+    let mut w = writer(&mut text);
+    network_display::write_prefix(p, &mut w);
+    let k = w.at;
+    out.write_all(cases::part(w.out, 0, k))
 }
 
 // What was answered, and the list after it.

@@ -1,11 +1,6 @@
 // Path records out of a line of cases, for the test programs of the path crates.
 #![tactic(auto)]
 
-pub fn refused(out: &mut [u8], at: usize, number: u64) -> usize {
-    let k = cases::put(out, at, b"refused ");
-    cases::put_decimal(out, k, number)
-}
-
 fn byte_numbers(s: &[u8], out: &mut [u32]) -> usize {
     for (place, b) in out.iter_mut().zip(s) {
         *place = u32::from(*b);
@@ -45,44 +40,59 @@ pub struct Loaded {
     pub numbers: usize,
 }
 
-// The record whose kinds are the field `at`.
-pub fn load(
-    line: &[u8],
-    at: usize,
-    kinds: &mut [u8],
-    s: &mut [u8],
-    lengths: &mut [u32],
-    numbers: &mut [u32],
-) -> Loaded {
-    let second = if at == 1 { 2 } else { 7 };
-    let third = if at == 1 { 3 } else { 8 };
-    let nk = cases::hex(cases::field(line, at), kinds);
-    let ml = cases::hex(cases::field(line, second), s);
-    let nl = byte_numbers(cases::part(s, 0, ml), lengths);
-    let mn = cases::hex(cases::field(line, third), s);
-    let nn = word_numbers(cases::part(s, 0, mn), numbers);
-    Loaded {
-        kinds: nk,
-        lengths: nl,
-        numbers: nn,
+// The places that a record is read into; the first of them are the record's.
+#[derive(Drop)]
+pub struct Lists {
+    pub kinds: [u8; 64],
+    pub lengths: [u32; 64],
+    pub numbers: [u32; 256],
+    pub loaded: Loaded,
+}
+
+// The record whose kinds are the field `first`.
+pub fn load(line: &[u8], first: usize) -> Lists {
+    let second = if first == 1 { 2 } else { 7 };
+    let third = if first == 1 { 3 } else { 8 };
+    let mut s = [0; 4096];
+    let mut kinds = [0; 64];
+    let mut lengths = [0; 64];
+    let mut numbers = [0; 256];
+    let nk = cases::hex(cases::field(line, first), &mut kinds);
+    let ml = cases::hex(cases::field(line, second), &mut s);
+    let nl = byte_numbers(cases::part(&s, 0, ml), &mut lengths);
+    let mn = cases::hex(cases::field(line, third), &mut s);
+    let nn = word_numbers(cases::part(&s, 0, mn), &mut numbers);
+    Lists {
+        kinds,
+        lengths,
+        numbers,
+        loaded: Loaded {
+            kinds: nk,
+            lengths: nl,
+            numbers: nn,
+        },
     }
 }
 
-pub fn load_digits(
-    line: &[u8],
-    kinds: &mut [u8],
-    s: &mut [u8],
-    lengths: &mut [u32],
-    numbers: &mut [u32],
-) -> Loaded {
-    let nk = digits(cases::field(line, 1), kinds);
-    let ml = digits(cases::field(line, 2), s);
-    let nl = byte_numbers(cases::part(s, 0, ml), lengths);
-    let mn = digits(cases::field(line, 3), s);
-    let nn = byte_numbers(cases::part(s, 0, mn), numbers);
-    Loaded {
-        kinds: nk,
-        lengths: nl,
-        numbers: nn,
+// The record of an `all`, with one digit for each kind, length and number.
+pub fn load_digits(line: &[u8]) -> Lists {
+    let mut s = [0; 4096];
+    let mut kinds = [0; 64];
+    let mut lengths = [0; 64];
+    let mut numbers = [0; 256];
+    let nk = digits(cases::field(line, 1), &mut kinds);
+    let ml = digits(cases::field(line, 2), &mut s);
+    let nl = byte_numbers(cases::part(&s, 0, ml), &mut lengths);
+    let mn = digits(cases::field(line, 3), &mut s);
+    let nn = byte_numbers(cases::part(&s, 0, mn), &mut numbers);
+    Lists {
+        kinds,
+        lengths,
+        numbers,
+        loaded: Loaded {
+            kinds: nk,
+            lengths: nl,
+            numbers: nn,
+        },
     }
 }

@@ -6,6 +6,7 @@
 #![tactic(auto)]
 
 use cases::{Answer, Program};
+use output::Writer;
 use psv_stream::Phase;
 use std::io;
 use std::io::Write;
@@ -32,25 +33,23 @@ fn times(s: &[u8]) -> u64 {
     }
 }
 
-fn put_part(s: &[u8], out: &mut [u8], at: usize) -> usize {
+fn put_part(s: &[u8], w: &mut Writer) {
     let mut halves = s.splitn(2, |b| *b == b'*');
     let digits = halves.next().unwrap_or(&[]);
     let n = times(halves.next().unwrap_or(&[]));
     let mut bytes = [0; 4096];
     let m = cases::hex(digits, &mut bytes);
-    let mut k = at;
     for _ in 0..n {
-        k = cases::put(out, k, cases::part(&bytes, 0, m));
+        w.bytes(cases::part(&bytes, 0, m));
     }
-    k
 }
 
 fn expand(s: &[u8], out: &mut [u8]) -> usize {
-    let mut n = 0;
+    let mut w = Writer { out, at: 0 };
     for part in s.split(|b| *b == b',') {
-        n = put_part(part, out, n);
+        put_part(part, &mut w);
     }
-    n
+    w.at
 }
 
 // The input's bytes that have come, those of them that are there, and what is printed.
@@ -70,9 +69,14 @@ fn feed(d: Driven, input: &[u8], piece: usize, bytes: &mut [u8]) -> Driven {
         return d;
     }
     let end = d.come.wrapping_add(piece).min(input.len());
+    let mut w = Writer {
+        out: bytes,
+        at: d.filled,
+    };
+    w.bytes(cases::part(input, d.come, end));
     Driven {
         come: end,
-        filled: cases::put(bytes, d.filled, cases::part(input, d.come, end)),
+        filled: w.at,
         ended: d.come == end,
         ..d
     }

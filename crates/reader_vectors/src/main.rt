@@ -3,6 +3,7 @@
 
 use cases::{Answer, Program};
 use elem::Element;
+use output::Writer;
 use psv::ElementError;
 use std::io;
 use std::io::Write;
@@ -26,17 +27,17 @@ fn byte(digits: &[u8]) -> u8 {
 
 // The listing that s spells, where `%` and two digits are a byte too: how many bytes.
 fn listing(s: &[u8], out: &mut [u8]) -> usize {
-    let mut n = 0;
+    let mut w = Writer { out, at: 0 };
     for (i, piece) in s.split(|b| *b == b'%').enumerate() {
         let (digits, others) = piece.split_at(if i == 0 { 0 } else { piece.len().min(2) });
         if i != 0 {
-            n = cases::put(out, n, &[byte(digits)]);
+            w.byte(byte(digits));
         }
         for b in others {
-            n = cases::put(out, n, &[plain(*b)]);
+            w.byte(plain(*b));
         }
     }
-    n
+    w.at
 }
 
 // The float whose bits these are; any NaN for those of one.

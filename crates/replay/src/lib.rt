@@ -2,7 +2,6 @@
 #![tactic(auto)]
 
 use cases::Tally;
-use columns::Columns;
 use elem::Element;
 use plain_calls::{Given, Plain, Prefix, Refusal};
 use psv::ElementError;
@@ -16,44 +15,10 @@ pub type Next = (State, Result<Option<Element>, NextError>);
 // How many AS places are lent.
 pub const PLACES: usize = 16;
 
-// The most bytes of a text, or of an address or a prefix in it.
+// The most bytes of a text.
 const TEXT: usize = 4096;
 
-const SHORT: usize = 128;
-
 type Text = Cursor<[u8; TEXT]>;
-
-fn put_columns(c: Columns, out: &mut Text) -> io::Result<()> {
-    let Columns {
-        next_hop,
-        metric,
-        local_pref,
-        weight,
-        path,
-    } = c;
-    write!(out, " {next_hop} {metric} {local_pref} {weight} {path}")
-}
-
-fn put_remembered(m: Remembered, out: &mut Text) -> io::Result<()> {
-    match m {
-        Remembered::Nothing => write!(out, " nothing"),
-        Remembered::Invalid => write!(out, " invalid"),
-        Remembered::Valid(p) => {
-            let mut text = [0; SHORT];
-            let n = network_display::write_prefix(p, &mut text, 0);
-            write!(out, " ")?;
-            out.write_all(cases::part(&text, 0, n))
-        }
-    }
-}
-
-fn put_peer(s: State, out: &mut Text) -> io::Result<()> {
-    let mut text = [0; SHORT];
-    let n = network_display::write_address(s.peer_ip, &mut text, 0);
-    write!(out, " ")?;
-    out.write_all(cases::part(&text, 0, n))?;
-    write!(out, " {}", s.peer_asn.0)
-}
 
 // A float by its bits.
 fn put_float(x: f64, out: &mut Text) -> io::Result<()> {
@@ -65,12 +30,15 @@ fn put_float(x: f64, out: &mut Text) -> io::Result<()> {
 }
 
 // Every field of a state.
+// Stays a text: a timestamp is compared by its bits, so that NaN is NaN and -0.0 is not 0.0; by `==`
+// it would be the other way round.
 fn put_state(s: State, out: &mut Text) -> io::Result<()> {
-    write!(out, " {}", s.position)?;
-    put_remembered(s.remembered, out)?;
-    put_peer(s, out)?;
-    put_float(s.timestamp, out)?;
-    put_columns(s.columns, out)
+    write!(
+        out,
+        " {} {:?} {:?} {:?} {:?}",
+        s.position, s.remembered, s.peer_ip, s.peer_asn, s.columns
+    )?;
+    put_float(s.timestamp, out)
 }
 
 // An element by its line.
@@ -83,13 +51,8 @@ fn put_element(e: Element, asns: &[u32], out: &mut Text) -> io::Result<()> {
 }
 
 pub fn state_in(n: Next) -> State {
-    match n {
-        (s, Ok(Some(_)))
-        | (s, Ok(None))
-        | (s, Err(NextError::Spoilt))
-        | (s, Err(NextError::Unreadable))
-        | (s, Err(NextError::TooFewPlaces)) => s,
-    }
+    let (state, _) = n;
+    state
 }
 
 // The element of an answer, or what else it is.
