@@ -3,7 +3,7 @@ use Rattle.std.specs.Prelude.{Option, Some}
 use Rattle.std.specs.Option.{unwrap_or}
 use Rattle.std.specs.List.{position, position_from}
 use Rattle.std.proofs.lemmas.Iterator.Adapters.{position_from-zero}
-use Prim.Native.Nat.{ℕ, zero, suc, ◌+◌, ◌-◌, ◌≤◌, ◌<◌, max}
+use Prim.Native.Nat.{ℕ, zero, suc, ◌+◌, ◌-◌, ◌≤◌, ◌<◌}
 use mathlib.Core.Path.{◌≡◌, refl, sym, ap, ◌∙◌}
 use mathlib.Core.Bool.{Bool, true, false, cond, not, ◌&&◌, and_assoc, and-true, false≢true}
 use mathlib.Core.List.{List, [], ◌∷◌, ◌++◌, flatten, nil≢cons}
@@ -12,8 +12,6 @@ use native.Mathlib.Nat.{add-zero}
 use native.Mathlib.Numerals.{add-one}
 use lib.ListN.{length, get_or, take, drop, length-append, length-drop, drop_of_length-le}
 use lib.Seq.{take_all, take_at, drop_at, drop-cons, drop-drop, take-suc}
-use lib.Dec.{leb}
-use borrow.Author.Tests.{leb-true, leb-false}
 use Rattle.scan.specs.Lists.{onto, non_empty, all, take_while, drop_while, end_while, split_by, tokens_by}
 
 pub flatten_onto : {A : Type 0} (x : A) (l : List (List A)) → flatten (onto x l) ≡ x ∷ flatten l
@@ -67,16 +65,6 @@ module _ {A : Type 0} (p : A → Bool) where
 
   -- a scan: the end sought from `at` on is the one from i on
   module _ (s : List A) (at i : ℕ) (e : end_while p s at ≡ end_while p s i) where
-    pub scan_end : length s ≤ i → i ≡ end_while p s at
-    scan_end h = sym (e ∙ end_while_past s i h)
-
-    pub scan_out : length s ≤ i → (at ≤ length s → i ≤ length s) → max at (length s) ≡ end_while p s at
-    scan_out h l = go (leb at (length s)) refl
-      where
-        go : (z : Bool) → leb at (length s) ≡ z → max at (length s) ≡ end_while p s at
-        go true f = omega (arith, scan_end h, leb-true at (length s) f, l (leb-true at (length s) f))
-        go false f = let past : length s < at = leb-false at (length s) f in omega (arith, end_while_past s at (omega arith))
-
     pub scan_stop : (d : A) → i < length s → p (get_or s i d) ≡ false → i ≡ end_while p s at
     unfolding take_while
     scan_stop d h f = sym (e ∙ rw (drop-cons s i d h, f) (add-zero i))
