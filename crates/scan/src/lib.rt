@@ -50,8 +50,8 @@ fn place_of(b: u8, k: usize) -> u8
     if b == b'\n' { k as u8 } else { 64 }
 }
 
-// How many of the 64 bytes stand before the first line feed. Again without a branch, as the least of
-// 64 places: where a line ends no branch would guess.
+// How many of the 64 bytes stand before the first line feed. Again without a branch, as the least
+// of 64 places: where a line ends no branch would guess.
 fn first_near(s: &[u8], at: usize) -> usize
     requires { at + 64 ≤ length s.now }
     ensures { result ≡ min 64 (length (take_while not_feed (drop at s.now))) }
