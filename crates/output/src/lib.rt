@@ -80,6 +80,14 @@ pub struct Writer<'a> {
 }
 
 impl<'a> Writer<'a> {
+    // What stands in the list up to the place: all of it where the place is past its end.
+    #[inline(always)]
+    pub fn text(&self) -> &[u8]
+        ensures { result.now ≡ take self.now.at self.now.out.now }
+    {
+        &self.out[..self.at.min(self.out.len())]
+    }
+
     // Most texts have room; one whose length is known is then a few stores.
     #[inline(always)]
     pub fn bytes(&mut self, text: &[u8])
