@@ -65,10 +65,10 @@ pub place : {t : List ℕ} {w₀ w : Writer} → Writes t w₀ w → w₀.at ≡
 place {t} {w₀} c z h = omega (arith, c.written.place, z, output.room_all w₀.out.now w₀.at t (omega (arith, z)))
 
 -- and holds the text, whole
-pub holds : {t : List ℕ} {w₀ w : Writer} → Writes t w₀ w → w₀.at ≡ 0 → length t ≤ length w₀.out.now → take w.at w.out.now ≡ t
-holds {t} {w₀} {w} c z h =
-    rw ((output.all_written t w₀.out.now w.out.now w₀.at w.at c.written (omega (arith, z, h))).0, z)
-    (take_at t (drop (0 + length t) w₀.out.now) w.at (sym (place c z h)))
+pub holds : {t s : List ℕ} {w₀ w : Writer} → Writes t w₀ w → w₀.at ≡ 0 → length t ≤ length w₀.out.now → s ≡ take w.at w.out.now → s ≡ t
+holds {t} {w₀ = w₀} {w = w} c z h e =
+    e
+    ∙ rw ((output.all_written t w₀.out.now w.out.now w₀.at w.at c.written (omega (arith, z, h))).0, z) (take_at t (drop (0 + length t) w₀.out.now) w.at (sym (place c z h)))
 
 -- a call that measured its text and has room, so that it lends a writer of its whole list: x is the list afterwards
 pub put : {t x : List ℕ} {n : ℕ} {w₀ w : Writer} → n ≡ length t → n ≤ length w₀.out.now → Writes t w₀ w → w₀.at ≡ 0 → x ≡ w.out.now

@@ -94,10 +94,11 @@ pub fn write_timestamp(second: u64, w: &mut Writer)
 pub fn put_timestamp(second: u64, out: &mut [u8]) -> Result<usize, PutError>
     ensures { (result ≡ answer (timestamp_text second) out.old) × (out.new ≡ front (timestamp_text second) out.old) }
 {
-    if out.len() < timestamp_len(second) {
-        return Err(PutError::TooShort);
-    }
-    let mut w = Writer { out, at: 0 };
+    let mut places = [0; 21];
+    let mut w = Writer {
+        out: &mut places,
+        at: 0,
+    };
     write_timestamp(second, &mut w);
-    Ok(w.at)
+    output::put(w.text(), out)
 }
