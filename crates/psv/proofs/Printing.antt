@@ -1,20 +1,20 @@
 -- Laws of an element's line: its parts written and put together, and its fields joined.
-use Rattle.std.specs.Prelude.{Option, Some, None, option_map, Result, Ok, Err}
+use Rattle.std.specs.Prelude.{Option, Some, None, option_map, Ok, Err}
 use mathlib.Core.Path.{◌≡◌, refl, sym, ap, ◌∙◌}
 use mathlib.Core.List.{List, [], ◌∷◌, ◌++◌, append_assoc}
 use mathlib.Core.Bool.{Bool, true, false}
 use Prim.Native.Nat.{ℕ, ◌+◌, ◌-◌, ◌≤◌, ◌<◌}
 use native.Mathlib.Numerals.{add-one}
 use native.Mathlib.Omega.{arith}
-use lib.ListN.{length, get_or, take, drop, length-append, drop_of_length-le}
-use lib.Seq.{drop-cons, take_at}
+use lib.ListN.{length, get_or, drop, length-append, drop_of_length-le}
+use lib.Seq.{drop-cons}
 use lib.Dec.{leb}
 use borrow.Author.Tests.{le-leb, lt-leb, leb-true, leb-false}
 use Rattle.scan.specs.Ascii.{ascii}
 use Rattle.decimal_display.specs.Printed.{decimal}
 use Rattle.output.specs.Writing.{Writes}
 use Rattle.output.specs.declared.Writer.{Writer}
-use Rattle.output.proofs.Output.{kept, all_written, room_inside}
+use Rattle.output.proofs.Output.{kept}
 use Rattle.output.proofs.Writing.{place, put}
 use Rattle.network.specs.declared.Asn.{Asn}
 use Rattle.network_display.specs.Text.{address_text, prefix_text}
@@ -22,7 +22,6 @@ use Rattle.seconds.specs.Seconds.{second_of}
 use Rattle.aspath_display.specs.Display.{lead, separated}
 use Rattle.elem.specs.Element.{spoilt, numbers}
 use Rattle.elem.specs.declared.Element.{Element}
-use Rattle.psv.specs.declared.ElementError.{ElementError}
 use Rattle.psv.specs.declared.ElementError.TheVariants.{TooShort}
 use Rattle.psv.specs.Line.{header_text, bar, type_text, time_text, sequence_text, asn_text, origin_text, number_text, psv_text, display_text, front_text, between_text, attributes_text, tail_text, line_text, Printed}
 
@@ -31,23 +30,6 @@ pub asn_number : (x : Option Asn) → number_text (option_map (λ (a : Asn). a.0
 unfolding asn_text number_text
 asn_number (Some a) = refl
 asn_number None = refl
-
--- a text written to places of our own, of which there are enough
-module _ (t : List ℕ) (w v : Writer) (c : Writes t w v) (start : w.at ≡ 0) (fits : length t ≤ length w.out.now) where
-  written_text : (x : List ℕ) → x ≡ v.out.now → take v.at x ≡ t
-  written_text x e =
-      rw (e, (all_written t w.out.now v.out.now w.at v.at c.written (omega arith)).0, start) (take_at t (drop (0 + length t) w.out.now) v.at (sym (place c start fits)))
-
-  -- copied from there, and a line printed with it
-  pub copied : {x : List ℕ} {w₁ v₁ : Writer} → Writes (take v.at x) w₁ v₁ → x ≡ v.out.now → Writes t w₁ v₁
-  copied {x = x} c₁ e = rw (← written_text x e) c₁
-
-  pub tail_put : (e : Element) (asns : List ℕ) {s : Bool} {u out new x : List ℕ} {r : Result ℕ ElementError} → line_text t e asns ≡ u
-      → Printed s (line_text (take v.at x) e asns) out r new → x ≡ v.out.now → Printed s u out r new
-  tail_put e asns {x = x} f p g = rw (← f, ← written_text x g) p
-
-pub inside : {t : List ℕ} {w v : Writer} → Writes t w v → w.at ≤ length w.out.now → v.at ≤ length w.out.now
-inside {t} {w} {v} c h = omega (arith, c.written.place, room_inside w.out.now w.at t h)
 
 -- a number's length taken from the room that is left
 leb_shift : (n a room : ℕ) → n ≤ room → leb (n + a) room ≡ leb a (room - n)
@@ -108,10 +90,6 @@ module _ (begin tail : List ℕ) (e : Element) (asns out : List ℕ) (r : Bool) 
 pub header_is : header_text ≡ ascii "type|timestamp|peer_ip|peer_asn|prefix|as_path|origin_asns|origin|next_hop|local_pref|med|communities|atomic|aggr_asn|aggr_ip|only_to_customer"
 unfolding header_text separated
 header_is = refl
-
-pub header_length : 142 ≡ length header_text
-unfolding header_text separated
-header_length = refl
 
 -- the fields joined are the parts one after another
 to_the_right : (x a b c d f p q g h i j z : List ℕ)

@@ -23,7 +23,7 @@ use network::NetworkPrefix;
 use output::Writer;
 use packed::Packed;
 use path_text::AsnsError;
-use psv::ElementError;
+use psv::{ElementError, Source};
 use text_dump::{OpenError, State};
 use text_dump_line::{Line, PrefixText, RouteEntry};
 use timestamp::InferError;
@@ -692,7 +692,13 @@ fn take_body(
 fn put_start(state: State, out: &mut [u8]) -> usize
     ensures { Begins (front_of state) out.new result state.remembered 0 }
 {
-    psv::put_front(true, state.timestamp, state.peer_ip, state.peer_asn, out).unwrap_or(0)
+    let source = Source {
+        announce: true,
+        timestamp: state.timestamp,
+        peer_ip: state.peer_ip,
+        peer_asn: state.peer_asn,
+    };
+    psv::put_front(source, out).unwrap_or(0)
 }
 
 // A run from the body on. What its lines begin with is printed once, the field of a prefix once for its lines.
