@@ -267,9 +267,8 @@ pub fn put_texts(
 ) -> Result<usize, PutError>
     ensures { (result ≡ answer (texts_line begin.now path.now origin_asn.now e) out.old) × (out.new ≡ front (texts_line begin.now path.now origin_asn.now e) out.old) }
 {
-    let Some(left) = left_of(out.len(), begin.len(), path.len(), origin_asn.len()) else {
-        return Err(PutError::TooShort);
-    };
+    let left = left_of(out.len(), begin.len(), path.len(), origin_asn.len());
+    let left = left.ok_or(PutError::TooShort)?;
     if !attributes_fit(e, left) {
         return Err(PutError::TooShort);
     }
