@@ -13,6 +13,7 @@ use mir.Syntax.{w64}
 use mir.Val.{Fits}
 use lib.Dec.{eqb, leb, ltb}
 use borrow.Author.Tests.{le-ltb, lt-ltb, lt-leb, le-leb, eq-eqb, ne_eqb, leb-true, leb-false, eqb-true, eqb-false, not-true}
+use Rattle.decimal.specs.Decimal.{below}
 use Rattle.ipv4.specs.Parts.{parts, before, prepend, each, number}
 use Rattle.ipv4.specs.Ipv4.{ipv4}
 use Rattle.ipv6.specs.Ipv6.{hex_digit, value_from, group, last_part, groups, side, gap, filled, eight, ipv6, upper, lower, as_ipv6}
@@ -20,7 +21,7 @@ use Rattle.ipv6.specs.Groups.{no_groups, shifted, push, push_all, side_from, who
 use Rattle.ipv6.specs.declared.Groups.{Groups}
 use Rattle.ipv4.proofs.Parts.{parts_last, parts_more, parts_cons, before_take, each_length, each_small, number_room}
 use Rattle.ipv4.proofs.Ipv4.{ipv4_small}
-use Rattle.ipv6.proofs.Ipv6.{digit_small}
+use Rattle.ipv6.proofs.Ipv6.{digit_small, gap_nowhere, gap_there}
 
 pub push_n : (r : Groups) (g : ℕ) → (push r g).n ≡ r.n + 1
 unfolding push
@@ -323,16 +324,17 @@ module _ (l r : List ℕ) (x : Option Groups) (hx : x ≡ side_from no_groups (s
                   ∙ sym (rw (el, er))
 
 -- the whole text
-module _ (s : List ℕ) (k : ℕ) (hk : k ≡ gap s) where
-  pub gap_text : k < length s → (v : Option (ℕ × ℕ)) → v ≡ as_ipv6 (filled (side false (take k s)) (side true (take (length s - (k + 2)) (drop (k + 2) s)))) → v ≡ as_ipv6 (ipv6 s)
+module _ (s : List ℕ) (p : Option ℕ) (hp : p ≡ below (length s) (Some (gap s))) where
+  pub gap_text : (k : ℕ) → p ≡ Some k → (v : Option (ℕ × ℕ)) → v ≡ as_ipv6 (filled (side false (take k s)) (side true (take (length s - (k + 2)) (drop (k + 2) s)))) → v ≡ as_ipv6 (ipv6 s)
   unfolding ipv6
-  gap_text h v e =
-      e ∙ rw (take_all (length s - (k + 2)) (drop (k + 2) s) (simp length-drop (omega arith)), hk) (simp (lt-ltb (gap s) (length s) (omega arith)))
+  gap_text k here v e =
+      let there : (k ≡ gap s) × (gap s < length s) = gap_there s p hp k here in
+      e ∙ rw (take_all (length s - (k + 2)) (drop (k + 2) s) (simp length-drop (omega arith)), there.0) (simp (lt-ltb (gap s) (length s) there.1))
 
-  module _ (h : length s ≤ k) (x : Option Groups) (hx : x ≡ side_from no_groups (side true s)) where
+  module _ (nowhere : p ≡ None) (x : Option Groups) (hx : x ≡ side_from no_groups (side true s)) where
     plain : ipv6 s ≡ eight (side true s)
     unfolding ipv6
-    plain = simp (le-ltb (gap s) (length s) (omega arith))
+    plain = simp (le-ltb (gap s) (length s) (gap_nowhere s p hp nowhere))
 
     pub plain_none : x ≡ None → None ≡ as_ipv6 (ipv6 s)
     plain_none e = rw plain (go (side true s) (unknown no_groups (side true s) x hx e))

@@ -1,7 +1,8 @@
 // IPv6 addresses, read from text as RFC 4291 and 01 say.
 #![tactic(auto)]
 
-ghost use Rattle.std.specs.Prelude.{◌≡◌, ◌+◌, ◌-◌, ◌≤◌, ◌==◌, true, false, length, replicate, position};
+ghost use Rattle.std.specs.Prelude.{◌≡◌, ◌+◌, ◌-◌, ◌≤◌, ◌==◌, true, false, Some, length, replicate, position};
+ghost use Rattle.decimal.specs.Decimal.{below};
 ghost use Rattle.ipv4.specs.Parts.{before};
 ghost use Rattle.ipv4.specs.Ipv4.{ipv4};
 ghost use Rattle.ipv6.specs.Ipv6.{hex_digit, group as group_of, last_part, side as side_of, gap as gap_of, filled, as_ipv6, read_ipv6};
@@ -92,11 +93,11 @@ fn part_end(t: &[u8], c: u8) -> usize
 }
 
 // The place of the first "::".
-#[tactic(auto, using(crate::proofs::Ipv6::gap_at, crate::proofs::Ipv6::gap_none))]
-fn gap(s: &[u8]) -> usize
-    ensures { result ≡ gap_of s.now }
+#[tactic(auto, using(crate::proofs::Ipv6::gap_found))]
+fn gap(s: &[u8]) -> Option<usize>
+    ensures { result ≡ below (length s.now) (Some (gap_of s.now)) }
 {
-    scan::find(s, b"::").unwrap_or(s.len())
+    scan::find(s, b"::")
 }
 
 // The last part of a side: a group, or where that is allowed an IPv4 address.
@@ -189,10 +190,8 @@ fn around(left: &[u8], right: &[u8]) -> Option<(u64, u64)>
 pub fn read_ipv6(s: &[u8]) -> Option<(u64, u64)>
     ensures { result ≡ read_ipv6 s.now }
 {
-    let k = gap(s);
-    if k < s.len() {
-        let j = k + 2;
-        return around(&s[..k], &s[j..]);
+    match gap(s) {
+        Some(k) => around(&s[..k], &s[k + 2..]),
+        None => whole(side(s, true, NO_GROUPS)?),
     }
-    whole(side(s, true, NO_GROUPS)?)
 }
