@@ -20,7 +20,7 @@ use Rattle.scan.specs.Search.{equal, find_from, find_in}
 use Rattle.decimal.specs.Decimal.{below}
 use Rattle.ipv4.specs.Parts.{before, prepend, each, number}
 use Rattle.ipv6.specs.Ipv6.{hex_digit, value_from, group, gap}
-use Rattle.ipv6.specs.Groups.{shifted, push}
+use Rattle.ipv6.specs.Groups.{shifted, push, push_all, side_from}
 use Rattle.ipv6.specs.declared.Groups.{Groups}
 use Rattle.ipv4.proofs.Parts.{number_grows, number_room, before_short}
 
@@ -128,13 +128,22 @@ module _ (p : List ℕ) (few : length p ≤ 4) (i v : ℕ) (h : v < 16 ^ i) (mor
     hex_room_for = record { fits = number_room {m = 4} (omega arith) hex_grows (omega arith) }
 
 -- one group more
-pub push_upper : (r : Groups) (g : ℕ) → r.n < 4 → record { n = r.n + 1; upper = shifted r.upper g; lower = r.lower } ≡ push r g
-unfolding push
-push_upper r g h = simp (lt-ltb r.n 4 h)
+module _ (r : Groups) (g : ℕ) where
+  pub push_full : 7 < r.n → None ≡ side_from r (Some (g ∷ []))
+  push_full h = simp (lt-leb (r.n + 1) 8 (omega arith))
 
-pub push_lower : (r : Groups) (g : ℕ) → 4 ≤ r.n → record { n = r.n + 1; upper = r.upper; lower = shifted r.lower g } ≡ push r g
-unfolding push
-push_lower r g h = simp (le-ltb r.n 4 h)
+  module _ (room : r.n ≤ 7) where
+    pub push_some : Some (push r g) ≡ side_from r (Some (g ∷ []))
+    unfolding push_all
+    push_some = simp (le-leb (r.n + 1) 8 (omega arith))
+
+    pub push_upper : r.n < 4 → Some (record { n = r.n + 1; upper = shifted r.upper g; lower = r.lower }) ≡ side_from r (Some (g ∷ []))
+    unfolding push
+    push_upper h = ap (λ (x : Groups). Some x) (simp (lt-ltb r.n 4 h)) ∙ push_some
+
+    pub push_lower : 4 ≤ r.n → Some (record { n = r.n + 1; upper = r.upper; lower = shifted r.lower g }) ≡ side_from r (Some (g ∷ []))
+    unfolding push
+    push_lower h = ap (λ (x : Groups). Some x) (simp (le-ltb r.n 4 h)) ∙ push_some
 
 -- the first part ends at the first c, else with the text
 before_count : (c : ℕ) (t : List ℕ) → position_or_len (λ b. eqb b c) t ≡ length (before c t)
