@@ -31,10 +31,7 @@ pub fn read_digits(s: &[u8]) -> Option<u64>
         if i < DIGITS_THAT_FIT {
             v = v * 10 + digit;
         } else {
-            let Some(next) = with_digit(v, digit) else {
-                return None;
-            };
-            v = next;
+            v = with_digit(v, digit)?;
         }
     }
     Some(v)
@@ -53,13 +50,8 @@ pub fn read_u64(s: &[u8]) -> Option<u64>
 pub fn read_u32(s: &[u8]) -> Option<u32>
     ensures { result ≡ read_u32 s.now }
 {
-    let Some(n) = read_u64(s) else {
-        return None;
-    };
-    match u32::try_from(n) {
-        Ok(n) => Some(n),
-        Err(_) => None,
-    }
+    let n = read_u64(s)?;
+    u32::try_from(n).ok()
 }
 
 // What some digits make, and the place behind them.
