@@ -118,6 +118,7 @@ impl Iterator for Numbers<'_> {
     ghost remaining = { item_count numbers_left };
 
     fn next(&mut self) -> Option<u32> {
+        // Stays a while: it counts no index, and with `find` the test would be written twice.
         while self.numbers.is_empty() {
             self.numbers = self.segments.next()?.numbers;
         }
