@@ -34,7 +34,7 @@ use Rattle.psv_stream.specs.declared.Phase.TheVariants.{Body, Stopped}
 use Rattle.psv_stream.specs.declared.Ran.{Ran}
 use Rattle.psv_stream.specs.Refusal.{number as number_of}
 use Rattle.psv_stream.specs.declared.Refusal.{Refusal}
-use Rattle.psv_stream.specs.declared.Place.{Place}
+use Rattle.psv_stream.specs.declared.body.Place.{Place}
 use Rattle.psv_stream.specs.declared.Step.{Step}
 use Rattle.psv_stream.specs.declared.Step.TheVariants as step
 use Rattle.psv_stream.proofs.Texts.{puts_none}

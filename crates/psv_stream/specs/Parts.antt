@@ -30,7 +30,7 @@ use Rattle.psv_stream.specs.declared.Step.TheVariants as step
 use Rattle.psv_stream.specs.declared.Ran.{Ran}
 use Rattle.psv_stream.specs.Refusal.{number}
 use Rattle.psv_stream.specs.declared.Refusal.{Refusal}
-use Rattle.psv_stream.specs.declared.Place.{Place}
+use Rattle.psv_stream.specs.declared.body.Place.{Place}
 use Rattle.psv_stream.specs.Run.{header_bytes, stage_of, Prints}
 
 -- what a line comes to that is not too long; of a header line, the text with all before it
