@@ -1,16 +1,16 @@
 // The body: the lines under the column header, one after another.
-ghost use Rattle.std.specs.Prelude.{◌≡◌, ℕ, ◌≤◌, List, [], ◌∷◌, length};
+ghost use Rattle.std.specs.Prelude.{◌≡◌, ℕ, List, [], ◌∷◌, IfSome};
 ghost use Rattle.scan.specs.Lines.{lines};
 ghost use Rattle.text_dump_line.specs.Line.{line_of};
 ghost use Rattle.text_dump_line.specs.declared.Line.TheVariants as read;
 ghost use Rattle.text_dump.specs.declared.Remembered.TheVariants as remembered;
 ghost use Rattle.psv_stream.specs.Refusal.{number};
 ghost use Rattle.psv_stream.specs.Run.{Runs};
-ghost use Rattle.psv_stream.specs.Parts.{front_of, Fine, Begins, kept_len, Kept, BodyDoes, Keeps, phase_of, step_of, Steps};
+ghost use Rattle.psv_stream.specs.Parts.{front_of, Fine, Begins, kept_len, Kept, BodyDoes, Keeps, phase_of, BodySteps, IfRoom};
 ghost use Rattle.psv_stream.specs.declared.Phase.TheVariants as phase;
 
 use crate::route::print_route;
-use crate::{Phase, Ran, Refusal, Step, refuse};
+use crate::{LINE, Phase, Ran, Refusal, Step, refuse};
 use input::Front;
 use network::NetworkPrefix;
 use output::Writer;
@@ -86,9 +86,8 @@ fn route_line(
     text: PrefixText,
     entry: RouteEntry,
     line: &[u8],
-    out: &mut [u8],
+    out: &mut [u8; LINE],
 ) -> Step<Place>
-    requires in_bounds { 65537 ≤ length out.old }
     requires line_value { lines line.now ≡ line.now ∷ [] }
     requires text_value { read.Route entry text ≡ line_of state.columns line.now }
     requires kept { Kept state buffers.old.start buffers.old.front_len b }
@@ -131,9 +130,8 @@ fn body_line(
     state: State,
     b: Place,
     line: &[u8],
-    out: &mut [u8],
+    out: &mut [u8; LINE],
 ) -> Step<Place>
-    requires in_bounds { 65537 ≤ length out.old }
     requires line_value { lines line.now ≡ line.now ∷ [] }
     requires kept { Kept state buffers.old.start buffers.old.front_len b }
     ensures body_does { BodyDoes state b line.now out.old out.new result }
@@ -171,11 +169,10 @@ fn take_body_line(
     b: Place,
     input: &[u8],
     ended: bool,
-    out: &mut [u8],
+    out: &mut [u8; LINE],
 ) -> Step<Place>
-    requires in_bounds { 65537 ≤ length out.old }
-    requires kept { Kept state buffers.old.start buffers.old.front_len b }
-    ensures steps { Steps (phase_of state b) input.now ended out.old out.new (step_of state result) }
+    requires { Kept state buffers.old.start buffers.old.front_len b }
+    ensures steps { BodySteps state b input.now ended out.old out.new result }
     ensures keeps { Keeps state buffers.new.start buffers.new.front_len result }
 {
     match input::line_at(input, 0, ended) {
@@ -184,6 +181,24 @@ fn take_body_line(
         Front::TooLong => Step::Stops(refuse(Refusal::LineTooLong, b.number.wrapping_add(1), out)),
         Front::Line(end) => body_line(buffers, state, b, &input[..end], out),
     }
+}
+
+// Takes the next line of the body, if there is room for what it may print.
+#[inline(always)]
+fn next_body_line(
+    buffers: &mut Buffers,
+    state: State,
+    b: Place,
+    input: &[u8],
+    ended: bool,
+    out: &mut [u8],
+) -> Option<Step<Place>>
+    requires { Kept state buffers.old.start buffers.old.front_len b }
+    ensures steps { IfRoom (BodySteps state b input.now ended) out.old out.new result }
+    ensures keeps { IfSome result (Keeps state buffers.new.start buffers.new.front_len) }
+{
+    let room = out.first_chunk_mut::<LINE>()?;
+    Some(take_body_line(buffers, state, b, input, ended, room))
 }
 
 // A run that ends in the body.
@@ -225,17 +240,14 @@ fn take_body(
     };
     let mut consumed = 0;
     let mut written = 0;
-    // Stays a while: it goes on as long as what is left of the output suffices, which no iterator over
-    // the input says.
-    while 65537 <= out.len() - written {
-        let step = take_body_line(
-            buffers,
-            state,
-            b,
-            &input[consumed..],
-            ended,
-            &mut out[written..],
-        );
+    while let Some(step) = next_body_line(
+        buffers,
+        state,
+        b,
+        &input[consumed..],
+        ended,
+        &mut out[written..],
+    ) {
         match step {
             Step::Starved => {
                 return body_ran(state, b, consumed, written, true);

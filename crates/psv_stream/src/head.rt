@@ -6,9 +6,9 @@ ghost use Rattle.text_dump.specs.Open.{open_of};
 ghost use Rattle.psv_stream.specs.Printed.{feed, dated, scanned};
 ghost use Rattle.psv_stream.specs.Refusal.{number};
 ghost use Rattle.psv_stream.specs.Run.{header_bytes};
-ghost use Rattle.psv_stream.specs.Parts.{acts, is_head, Puts, Ends, TooLong, Does, Steps, Heads};
+ghost use Rattle.psv_stream.specs.Parts.{acts, is_head, Puts, Ends, TooLong, Does, Steps, IfRoom, Heads};
 
-use crate::{Phase, Ran, Refusal, Step, refuse};
+use crate::{LINE, Phase, Ran, Refusal, Step, refuse};
 use input::Front;
 use output::Writer;
 use text_dump::{OpenError, State};
@@ -16,8 +16,7 @@ use timestamp::InferError;
 
 // What is printed at the input's end.
 #[tactic(auto, using(crate::proofs::Lines::end_laws))]
-fn end(phase: Phase, out: &mut [u8]) -> usize
-    requires { 65537 ≤ length out.old }
+fn end(phase: Phase, out: &mut [u8; LINE]) -> usize
     ensures { Ends phase out.old out.new result }
 {
     match phase {
@@ -29,8 +28,7 @@ fn end(phase: Phase, out: &mut [u8]) -> usize
 }
 
 #[tactic(auto, using(crate::proofs::Lines::long_laws))]
-fn too_long(phase: Phase, out: &mut [u8]) -> usize
-    requires { 65537 ≤ length out.old }
+fn too_long(phase: Phase, out: &mut [u8; LINE]) -> usize
     ensures { TooLong phase out.old out.new result }
 {
     match phase {
@@ -41,8 +39,7 @@ fn too_long(phase: Phase, out: &mut [u8]) -> usize
     }
 }
 
-fn path_line(input: &[u8], end: usize, out: &mut [u8]) -> Step<Phase>
-    requires in_bounds { 65537 ≤ length out.old }
+fn path_line(input: &[u8], end: usize, out: &mut [u8; LINE]) -> Step<Phase>
     requires end_in_bounds { end ≤ length input.now }
     ensures { Does (dated (infer_timestamp (take end input.now))) input.now end out.old out.new result }
 {
@@ -52,21 +49,17 @@ fn path_line(input: &[u8], end: usize, out: &mut [u8]) -> Step<Phase>
     }
 }
 
-fn put_header(out: &mut [u8]) -> usize
-    requires { 65537 ≤ length out.old }
+fn put_header(out: &mut [u8; LINE]) -> usize
     ensures { Puts (header_text ++ feed) out.old out.new result }
 {
-    let Ok(n) = psv::get_psv_header(out) else {
-        return 0;
-    };
-    let mut w = Writer { out, at: n };
+    let at = psv::get_psv_header(out).unwrap_or(0);
+    let mut w = Writer { out, at };
     w.byte(b'\n');
     w.at
 }
 
 // Tries to open input[..end], the first lines of the listing, as many as `number` says.
-fn header_line(t: f64, number: u64, input: &[u8], end: usize, out: &mut [u8]) -> Step<Phase>
-    requires in_bounds { 65537 ≤ length out.old }
+fn header_line(t: f64, number: u64, input: &[u8], end: usize, out: &mut [u8; LINE]) -> Step<Phase>
     requires end_in_bounds { end ≤ length input.now }
     ensures { Does (scanned t number (take end input.now) (open_of t (take end input.now))) input.now end out.old out.new result }
 {
@@ -103,8 +96,7 @@ pub(crate) fn is_head(phase: Phase) -> bool
 
 // A line that ends there, and is not too long.
 #[tactic(auto, using(crate::proofs::Lines::on_laws))]
-fn on_line(phase: Phase, input: &[u8], end: usize, out: &mut [u8]) -> Step<Phase>
-    requires in_bounds { 65537 ≤ length out.old }
+fn on_line(phase: Phase, input: &[u8], end: usize, out: &mut [u8; LINE]) -> Step<Phase>
     requires end_in_bounds { end ≤ length input.now }
     requires phase_value { is_head phase ≡ true }
     ensures { Does (acts phase (take end input.now)) input.now end out.old out.new result }
@@ -133,9 +125,8 @@ fn header_bytes(phase: Phase) -> usize
 }
 
 #[tactic(auto, using(crate::proofs::Steps::line_laws))]
-fn take_line(phase: Phase, input: &[u8], ended: bool, out: &mut [u8]) -> Step<Phase>
-    requires in_bounds { 65537 ≤ length out.old }
-    requires phase_value { is_head phase ≡ true }
+fn take_line(phase: Phase, input: &[u8], ended: bool, out: &mut [u8; LINE]) -> Step<Phase>
+    requires { is_head phase ≡ true }
     ensures { Steps phase input.now ended out.old out.new result }
 {
     match input::line_at(input, header_bytes(phase), ended) {
@@ -144,6 +135,16 @@ fn take_line(phase: Phase, input: &[u8], ended: bool, out: &mut [u8]) -> Step<Ph
         Front::TooLong => Step::Stops(too_long(phase, out)),
         Front::Line(end) => on_line(phase, input, end, out),
     }
+}
+
+// Takes the next line of the head, if there is room for what it may print.
+#[inline(always)]
+fn next_line(phase: Phase, input: &[u8], ended: bool, out: &mut [u8]) -> Option<Step<Phase>>
+    requires { is_head phase ≡ true }
+    ensures { IfRoom (Steps phase input.now ended) out.old out.new result }
+{
+    let room = out.first_chunk_mut::<LINE>()?;
+    Some(take_line(phase, input, ended, room))
 }
 
 // Takes lines of the head as long as there is a whole one, and room for what it may print.
@@ -157,18 +158,12 @@ pub(crate) fn take_head(phase: Phase, input: &[u8], ended: bool, out: &mut [u8])
         written: 0,
         starved: false,
     };
-    // Stays a while: it goes on as long as what is left of the output suffices, which no iterator over
-    // the input says.
-    while 65537 <= out.len() - ran.written {
-        if !is_head(ran.phase) {
+    while is_head(ran.phase) {
+        let rest = &mut out[ran.written..];
+        let Some(step) = next_line(ran.phase, &input[ran.consumed..], ended, rest) else {
             return ran;
-        }
-        match take_line(
-            ran.phase,
-            &input[ran.consumed..],
-            ended,
-            &mut out[ran.written..],
-        ) {
+        };
+        match step {
             Step::Starved => {
                 return Ran {
                     starved: true,

@@ -6,7 +6,7 @@ mod body;
 mod head;
 mod route;
 
-ghost use Rattle.std.specs.Prelude.{◌≡◌, ◌≤◌, length};
+ghost use Rattle.std.specs.Prelude.{◌≡◌};
 ghost use Rattle.psv_stream.specs.Printed.{refusal_text};
 ghost use Rattle.psv_stream.specs.Refusal.{number, of_asns, of_element};
 ghost use Rattle.psv_stream.specs.Run.{Runs};
@@ -18,6 +18,9 @@ use output::Writer;
 use path_text::AsnsError;
 use psv::ElementError;
 use text_dump::State;
+
+// The room that a line is printed into: 65,536 bytes and a line feed.
+const LINE: usize = 65537;
 
 // Where the program is in its input.
 #[derive(Clone, Copy)]
@@ -108,8 +111,7 @@ pub struct Ran {
     pub starved: bool,
 }
 
-fn refuse(why: Refusal, line: u64, out: &mut [u8]) -> usize
-    requires { 65537 ≤ length out.old }
+fn refuse(why: Refusal, line: u64, out: &mut [u8; LINE]) -> usize
     ensures { Puts (refusal_text (number why) line) out.old out.new result }
 {
     let mut w = Writer { out, at: 0 };

@@ -1,12 +1,12 @@
 // The line of a route: copied where its path stands as it is printed, else by the numbers of the path.
-ghost use Rattle.std.specs.Prelude.{◌≡◌, ◌<◌, ◌≤◌, ◌++◌, length};
+ghost use Rattle.std.specs.Prelude.{◌≡◌, ◌<◌, ◌++◌, length};
 ghost use Rattle.psv.specs.Line.{between_text};
 ghost use Rattle.path_text.specs.Path.{asns_of};
 ghost use Rattle.text_dump_line.specs.Line.{path_of};
 ghost use Rattle.text_dump.specs.declared.Remembered.TheVariants as remembered;
 ghost use Rattle.psv_stream.specs.Parts.{front_of, PutElement, PlainDigits, IsPlain, Copies, PutRoute, PutCopy, Fine};
 
-use crate::Refusal;
+use crate::{LINE, Refusal};
 use elem::Element;
 use network::NetworkPrefix;
 use output::Writer;
@@ -15,8 +15,7 @@ use text_dump::State;
 use text_dump_line::RouteEntry;
 
 // An element's line and its line feed.
-fn put_element(e: Element, asns: &[u32], out: &mut [u8]) -> Result<usize, ElementError>
-    requires { 65537 ≤ length out.old }
+fn put_element(e: Element, asns: &[u32], out: &mut [u8; LINE]) -> Result<usize, ElementError>
     ensures { PutElement e asns.now out.old out.new result }
 {
     let end = psv::to_psv(e, asns, &mut out[..65536])?;
@@ -32,9 +31,8 @@ fn print_numbers(
     entry: RouteEntry,
     path: &[u8],
     asns: &mut [u32; 16384],
-    out: &mut [u8],
+    out: &mut [u8; LINE],
 ) -> Result<usize, Refusal>
-    requires { 65537 ≤ length out.old }
     ensures { PutRoute state prefix entry (asns_of path.now) out.old out.new result }
 {
     let count = path_text::put_asns(path, asns)?;
@@ -92,8 +90,7 @@ fn plain_path(path: &[u8]) -> Option<(usize, usize)>
 
 // The line of a route whose path is plain, with a line feed, after what the line begins with; None,
 // and nothing written, where the path is not plain or the line not surely short enough.
-fn copy_route(begin: &[u8], path: &[u8], e: Element, out: &mut [u8]) -> Option<usize>
-    requires { 65537 ≤ length out.old }
+fn copy_route(begin: &[u8], path: &[u8], e: Element, out: &mut [u8; LINE]) -> Option<usize>
     ensures { Copies begin.now path.now e out.old out.new result }
 {
     if 16384 < path.len() {
@@ -115,9 +112,8 @@ fn copy_behind(
     prefix: NetworkPrefix,
     entry: RouteEntry,
     path: &[u8],
-    out: &mut [u8],
+    out: &mut [u8; LINE],
 ) -> Option<usize>
-    requires in_bounds { 65537 ≤ length out.old }
     requires fine { Fine state (remembered.Valid prefix) }
     requires start_value { 0 < length start.now → start.now ≡ front_of state ++ between_text prefix }
     ensures { PutCopy state prefix entry (asns_of path.now) out.old out.new result }
@@ -138,9 +134,8 @@ pub(crate) fn print_route(
     entry: RouteEntry,
     line: &[u8],
     asns: &mut [u32; 16384],
-    out: &mut [u8],
+    out: &mut [u8; LINE],
 ) -> Result<usize, Refusal>
-    requires in_bounds { 65537 ≤ length out.old }
     requires fine { Fine state (remembered.Valid prefix) }
     requires start_value { 0 < length start.now → start.now ≡ front_of state ++ between_text prefix }
     ensures { PutRoute state prefix entry (asns_of (path_of entry line.now)) out.old out.new result }

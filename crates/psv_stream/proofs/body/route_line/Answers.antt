@@ -1,6 +1,6 @@
 use Rattle.packed.proofs.PackedLaws.{bare_kind, valid_kind}
 use Rattle.psv_stream.proofs.Bodies.{bare, bare_keeps, Under, fine_prefix, begin_inside, begin_size, begin_is, route_wrote, route_refused, route_keeps}
-use Rattle.std.proofs.Common.{arith, rules}
+use Rattle.std.proofs.Common.{arith}
 use Rattle.psv_stream.proofs.body.route_line.Goals as goal
 use Rattle.psv_stream.proofs.body.route_line.Goals.{After-prefix_of-prefix}
 
@@ -29,7 +29,7 @@ slice_bounds-print_route-end c =
 pub print_route-put-requires : goal.print_route-put-requires
 print_route-put-requires c =
     let u = under (goal.at.print_route-put-requires c).After-prefix_of-prefix in
-    record { in_bounds = search rules; fine = fine_prefix u; start_value = begin_is u _ c.kept_len-kept.ensures _ _ c.start_of-start_len.ensures }
+    record { fine = fine_prefix u; start_value = begin_is u _ c.kept_len-kept.ensures _ _ c.start_of-start_len.ensures }
 
 pub returns-in-Ok : goal.returns-in-Ok
 returns-in-Ok c =

@@ -6,7 +6,7 @@ pub slice_bounds-body_line-end : goal.slice_bounds-body_line-end
 slice_bounds-body_line-end c = search line_size
 
 pub body_line-requires : goal.body_line-requires
-body_line-requires c = record { in_bounds = search rules; line_value = search line_one; kept = search rules }
+body_line-requires c = record { line_value = search line_one; kept = search rules }
 
 pub returns-in-Starved : goal.returns-in-Starved
 returns-in-Starved c = record { steps = search starved_steps; keeps = tt }

@@ -1,5 +1,4 @@
 use Rattle.std.proofs.Common.{arith, length-take, rules}
-use lib.Seq.{length_front}
 use Rattle.psv_stream.proofs.Texts.{written_by}
 use Rattle.psv_stream.proofs.Copying.{spelled, spelled_order, spelled_inside, copied_put, copied_short}
 use Rattle.psv_stream.proofs.route.copy_route.Goals as goal
@@ -21,14 +20,10 @@ slice_bounds-put_texts-end-2 c = spelled_inside _ _ c.plain_path.ensures _ _ c.i
 pub slice_bounds-put_texts-end-4 : goal.slice_bounds-put_texts-end-4
 slice_bounds-put_texts-end-4 c = simp length-take (omega arith)
 
-pub shape_of-out-in_default : goal.shape_of-out-in_default
-shape_of-out-in_default c =
-    length_front c.args.out.now c.put_texts.new.out 65536 c.put_texts.auto.out
-
 pub returns-in_default : goal.returns-in_default
 returns-in_default c =
-    copied_short _ _ _ _ _ _ _ _ c.requires (spelled _ _ c.plain_path.ensures _ _ c.in_ok-last.was) c.put_texts.ensures _ c.in_default.is
+    copied_short _ _ _ _ _ _ _ _ (search rules) (spelled _ _ c.plain_path.ensures _ _ c.in_ok-last.was) c.put_texts.ensures _ c.in_default.is
 
 pub returns : goal.returns
 returns c =
-    copied_put _ _ _ _ _ _ _ _ c.requires (spelled _ _ c.plain_path.ensures _ _ c.in_ok-last.was) c.put_texts.ensures c.if-path-gt16384.false _ c.in-Ok.is _ _ (written_by c.byte.ensures (search rules))
+    copied_put _ _ _ _ _ _ _ _ (search rules) (spelled _ _ c.plain_path.ensures _ _ c.in_ok-last.was) c.put_texts.ensures c.if-path-gt16384.false _ c.in-Ok.is _ _ (written_by c.byte.ensures (search rules))

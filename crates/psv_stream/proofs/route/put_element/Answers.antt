@@ -6,7 +6,7 @@ pub slice_bounds-to_psv-end-2 : goal.slice_bounds-to_psv-end-2
 slice_bounds-to_psv-end-2 c = simp length-take (omega arith)
 
 pub returns-in_err-end : goal.returns-in_err-end
-returns-in_err-end c = element_failed _ _ _ _ _ c.requires c.to_psv.ensures _ c.in_err-end.was _ c.from_residual.ensures.1
+returns-in_err-end c = element_failed _ _ _ _ _ (search rules) c.to_psv.ensures _ c.in_err-end.was _ c.from_residual.ensures.1
 
 pub returns : goal.returns
-returns c = element_put _ _ _ _ _ c.requires c.to_psv.ensures _ c.in_ok-end.was _ _ (written_by c.byte.ensures (search rules))
+returns c = element_put _ _ _ _ _ (search rules) c.to_psv.ensures _ c.in_ok-end.was _ _ (written_by c.byte.ensures (search rules))
