@@ -28,13 +28,13 @@ use Rattle.packed.specs.Packed.{remembered_in}
 use Rattle.packed.specs.declared.Packed.{Packed}
 use Rattle.psv_stream.specs.Printed.{refusal_text, refuse, printed_element, answered, after, next_of}
 use Rattle.psv_stream.specs.Run.{Runs}
-use Rattle.psv_stream.specs.Parts.{Puts, acts, Steps, Came, element_for, routed, PutRoute, front_of, Begins, kept_len, state_of, phase_of, step_of, Fine, Kept, Keeps, BodyDoes}
+use Rattle.psv_stream.specs.Parts.{Puts, acts, Steps, Came, element_for, routed, PutRoute, front_of, Begins, kept_len, state_of, phase_of, step_of, Fine, Kept, Keeps, BodyDoes, BodySteps}
 use Rattle.psv_stream.specs.declared.Phase.{Phase}
 use Rattle.psv_stream.specs.declared.Phase.TheVariants.{Body, Stopped}
 use Rattle.psv_stream.specs.declared.Ran.{Ran}
 use Rattle.psv_stream.specs.Refusal.{number as number_of}
 use Rattle.psv_stream.specs.declared.Refusal.{Refusal}
-use Rattle.psv_stream.specs.declared.Place.{Place}
+use Rattle.psv_stream.specs.declared.body.Place.{Place}
 use Rattle.psv_stream.specs.declared.Step.{Step}
 use Rattle.psv_stream.specs.declared.Step.TheVariants as step
 use Rattle.psv_stream.proofs.Texts.{puts_none}
@@ -237,17 +237,18 @@ module _ {σ : State} {number : ℕ} {s : List ℕ} {ended : Bool} {out₀ : Lis
   abbrev came : Came before s ended out₀ (phase_of σ b) c w out
   came = so_far.lines
 
-  -- no room
-  pub full : length out - w < 65537 → (r : Ran) → r ≡ record { phase = phase_of σ b; consumed = c; written = w; starved = false } → Runs before s ended out₀ r out
-  full h r e = rw e (loop.full before s ended out₀ (phase_of σ b) c w out came h)
-
   abbrev left' : List ℕ
   left' = left before s ended out₀ (phase_of σ b) c w out came
 
   abbrev room' : List ℕ
   room' = room before s ended out₀ (phase_of σ b) c w out came
 
-  module _ (part : List ℕ) (z : Step Place) (known : Steps (phase_of σ b) left' ended room' part (step_of σ z)) where
+  -- no room
+  pub full : (part : List ℕ) → (length room' < 65537) × (part ≡ room') → (r : Ran) → r ≡ record { phase = phase_of σ b; consumed = c; written = w; starved = false }
+      → Runs before s ended out₀ r (new before s ended out₀ (phase_of σ b) c w out came part)
+  full part none r e = rw e (loop.full before s ended out₀ (phase_of σ b) c w out came part none)
+
+  module _ (part : List ℕ) (z : Step Place) (known : BodySteps σ b left' ended room' part z) where
     abbrev new' : List ℕ
     new' = new before s ended out₀ (phase_of σ b) c w out came part
 

@@ -30,7 +30,7 @@ use Rattle.psv_stream.specs.declared.Step.TheVariants as step
 use Rattle.psv_stream.specs.declared.Ran.{Ran}
 use Rattle.psv_stream.specs.Refusal.{number}
 use Rattle.psv_stream.specs.declared.Refusal.{Refusal}
-use Rattle.psv_stream.specs.declared.Place.{Place}
+use Rattle.psv_stream.specs.declared.body.Place.{Place}
 use Rattle.psv_stream.specs.Run.{header_bytes, stage_of, Prints}
 
 -- what a line comes to that is not too long; of a header line, the text with all before it
@@ -117,6 +117,11 @@ Steps p s ended out new (step.Took c w q) =
 Steps p s ended out new (step.Stops w) = (w ≤ length out) × (drop w new ≡ drop w out) × Prints ended p s (take w new) Stopped []
 Steps p s ended out new step.Starved = (new ≡ out) × Starved s (header_bytes p) ended
 
+-- a line is taken where the output has room for what it may print
+abbrev pub IfRoom : {P : Type 0} → (List ℕ → List ℕ → Step P → Type 0) → List ℕ → List ℕ → Option (Step P) → Type 0
+IfRoom R out new (Some r) = R out new r
+IfRoom R out new None = (length out < 65537) × (new ≡ out)
+
 -- from p₀, with the input s and the output out₀, the lines taken have come to p, with c bytes consumed and w written to what is now out
 pub record Came (p₀ : Phase) (s : List ℕ) (ended : Bool) (out₀ : List ℕ) (p : Phase) (c w : ℕ) (out : List ℕ) : Type 0 where
   pub consumed : c ≤ length s
@@ -186,6 +191,9 @@ abbrev pub step_of : State → Step Place → Step Phase
 step_of σ (step.Took c w b) = step.Took c w (phase_of σ b)
 step_of σ (step.Stops w) = step.Stops w
 step_of σ step.Starved = step.Starved
+
+abbrev pub BodySteps : State → Place → List ℕ → Bool → List ℕ → List ℕ → Step Place → Type 0
+BodySteps σ b s ended out new r = Steps (phase_of σ b) s ended out new (step_of σ r)
 
 -- a state that remembers m is not spoilt where a line starts
 abbrev pub Fine : State → Remembered → Type 0
