@@ -9,7 +9,7 @@
 use aspath::Spoilt;
 use aspath_equivalence::Equivalence;
 use aspath_normal::Counts;
-use cases::{Answer, InHex, Program};
+use cases::{Answer, InHex, Marked, Program};
 use path_cases::Lists;
 use std::io;
 use std::io::Write;
@@ -45,10 +45,13 @@ fn put_record(
     numbers: &[u32],
     out: &mut Answer,
 ) -> io::Result<()> {
-    write!(out, " {} ", InHex(kinds))?;
-    cases::put_places(mark, lengths, out)?;
-    write!(out, " ")?;
-    cases::put_places(mark, numbers, out)
+    write!(
+        out,
+        " {} {} {}",
+        InHex(kinds),
+        Marked(mark, lengths),
+        Marked(mark, numbers)
+    )
 }
 
 // What a call answers of the record, and what it leaves in its lists.
@@ -63,8 +66,8 @@ fn answer_call<F: Fn(&mut [u8], &mut [u32], &mut [u32], usize, usize) -> Result<
 {
     let n = lists.loaded;
     let kinds = path_cases::first_bytes(&mut lists.kinds, n.kinds);
-    let lengths = cases::first_places(&mut lists.lengths, n.lengths);
-    let numbers = cases::first_places(&mut lists.numbers, n.numbers);
+    let lengths = cases::first_mut(&mut lists.lengths, n.lengths);
+    let numbers = cases::first_mut(&mut lists.numbers, n.numbers);
     let answer = call(
         kinds,
         lengths,
@@ -100,11 +103,11 @@ fn answer_equivalent(line: &[u8], out: &mut Answer) -> io::Result<()> {
     let n = first.loaded;
     let n2 = second.loaded;
     let kinds = path_cases::first_bytes(&mut first.kinds, n.kinds);
-    let lengths = cases::first_places(&mut first.lengths, n.lengths);
-    let numbers = cases::first_places(&mut first.numbers, n.numbers);
+    let lengths = cases::first_mut(&mut first.lengths, n.lengths);
+    let numbers = cases::first_mut(&mut first.numbers, n.numbers);
     let kinds2 = path_cases::first_bytes(&mut second.kinds, n2.kinds);
-    let lengths2 = cases::first_places(&mut second.lengths, n2.lengths);
-    let numbers2 = cases::first_places(&mut second.numbers, n2.numbers);
+    let lengths2 = cases::first_mut(&mut second.lengths, n2.lengths);
+    let numbers2 = cases::first_mut(&mut second.numbers, n2.numbers);
     let answer = aspath_equivalence::has_equivalent_routing(
         kinds,
         lengths,

@@ -10,7 +10,7 @@
 use aspath::{PathRecord, Spoilt, VariationsError};
 use aspath_display::DisplayError;
 use aspath_routes::{NumbersError, RouteError};
-use cases::{Answer, InHex, Program};
+use cases::{Answer, InHex, Marked, Program};
 use path_cases::Lists;
 use std::io;
 use std::io::Write;
@@ -143,12 +143,12 @@ fn write(
     if scan::starts_with(name, b"u32vec") {
         let r = aspath_routes::to_u32_vec_opt(record, arg == 1, places);
         put_vec(r, out)?;
-        return cases::put_places(",", places, out);
+        return write!(out, "{}", Marked(",", places));
     }
     if scan::starts_with(name, b"route") {
         let r = aspath_routes::numbered_route(record, arg as u64, places);
         put_count(r, out)?;
-        return cases::put_places(",", places, out);
+        return write!(out, "{}", Marked(",", places));
     }
     Ok(())
 }
@@ -189,8 +189,7 @@ fn all_reading(record: PathRecord, out: &mut Answer) -> io::Result<()> {
 }
 
 fn put_written(places: &[u32], n: usize, out: &mut Answer) -> io::Result<()> {
-    write!(out, " ")?;
-    cases::put_places("", path_cases::first_numbers(places, n), out)
+    write!(out, " {}", Marked("", cases::first(places, n)))
 }
 
 fn all_vec(
@@ -247,8 +246,7 @@ fn all_written(record: PathRecord, places: &mut [u32], out: &mut Answer) -> io::
     for number in 0..routes_asked(record.num_route_variations()) {
         all_route(record, number, places, out)?;
     }
-    write!(out, "|")?;
-    cases::put_places("", places, out)
+    write!(out, "|{}", Marked("", places))
 }
 
 fn all(
@@ -292,7 +290,7 @@ impl Program for PathCases {
         let room = cases::number(line, 7);
         let mut places = [7; 300];
         let mut bytes = [0; 4096];
-        let lent = cases::first_places(&mut places, room);
+        let lent = cases::first_mut(&mut places, room);
         if scan::same(name, b"all") {
             return all(record, lent, path_cases::first_bytes(&mut bytes, arg), out);
         }

@@ -8,10 +8,10 @@
 // `text_vectors`.
 #![tactic(auto)]
 
-ghost use Rattle.std.specs.Prelude.{◌≡◌, ◌<◌, ◌==◌, cond, codes, length, position, IfOk};
+ghost use Rattle.std.specs.Prelude.{◌≡◌, ◌<◌, ◌==◌, cond, codes, length, position, take, IfOk};
 ghost use Rattle.std.specs.Io.{ReadsAtMost};
 ghost use Rattle.scan.specs.Search.{equal};
-ghost use Rattle.cases.specs.Cases.{part_of, float_of, answer_of, counted};
+ghost use Rattle.cases.specs.Cases.{part_of, shown_or, float_of, answer_of, counted};
 
 use std::fs::File;
 use std::io::{Cursor, Read, Write};
@@ -150,16 +150,45 @@ impl fmt::Display for InHex<'_> {
     }
 }
 
-// What all places of a lent list hold, each in decimal behind the mark.
-pub fn put_places(mark: &str, places: &[u32], out: &mut Answer) -> io::Result<()> {
-    for place in places {
-        write!(out, "{mark}{place}")?;
+// The values of a list, each after the mark.
+#[derive(Clone, Copy)]
+pub struct Marked<'a, T>(pub &'a str, pub &'a [T]);
+
+impl<T: fmt::Display> fmt::Display for Marked<'_, T> {
+    fn fmt<W: fmt::Write>(&self, f: &mut fmt::Formatter<W>) -> fmt::Result {
+        for value in self.1 {
+            write!(f, "{}{value}", self.0)?;
+        }
+        Ok(())
     }
-    Ok(())
 }
 
-// The first n places of a list, all where there are fewer.
-pub fn first_places(s: &mut [u32], n: usize) -> &mut [u32] {
+// A value, or the text where there is none.
+#[derive(Clone, Copy)]
+pub struct Or<'a, T>(pub Option<T>, pub &'a str);
+
+impl<T: fmt::Display> fmt::Display for Or<'_, T> {
+    ghost output = { shown_or T.output };
+
+    fn fmt<W: fmt::Write>(&self, f: &mut fmt::Formatter<W>) -> fmt::Result {
+        match &self.0 {
+            Some(value) => write!(f, "{value}"),
+            None => write!(f, "{}", self.1),
+        }
+    }
+}
+
+// The first n of a list, all where there are fewer.
+pub fn first<T>(s: &[T], n: usize) -> &[T]
+    ensures { result.now ≡ take n s.now }
+{
+    s.get(..n).unwrap_or(s)
+}
+
+// The same of a list that is to be changed.
+pub fn first_mut<T>(s: &mut [T], n: usize) -> &mut [T]
+    ensures { result.now ≡ take n s.old }
+{
     let n = n.min(s.len());
     &mut s[..n]
 }
