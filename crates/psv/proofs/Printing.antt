@@ -39,7 +39,7 @@ leb_shift n a room h = go (leb a (room - n)) refl
     go true k = le-leb (n + a) room (omega (arith, leb-true a (room - n) k))
     go false k = lt-leb (n + a) room (omega (arith, leb-false a (room - n) k))
 
-module _ (x first : Bool) (s : List ℕ) (i left : ℕ) (known : x ≡ leb (length (separated 32 decimal first (drop i s))) left) where
+module _ (first x : Bool) (s : List ℕ) (i left : ℕ) (known : x ≡ leb (length (separated 32 decimal first (drop i s))) left) where
   module _ (h : i < length s) (n : ℕ) (e : n ≡ length (lead first 32 ++ decimal (get_or s i 0))) where
     next : length (separated 32 decimal first (drop i s)) ≡ n + length (separated 32 decimal false (drop (i + 1) s))
     unfolding separated
@@ -54,6 +54,23 @@ module _ (x first : Bool) (s : List ℕ) (i left : ℕ) (known : x ≡ leb (leng
   pub room_end : length s ≤ i → true ≡ x
   unfolding separated
   room_end h = sym (known ∙ rw (drop_of_length-le s h) (le-leb 0 left (omega arith)))
+
+-- the first number has no space before it
+module _ (x : ℕ) (rest : List ℕ) (n room : ℕ) (e : n ≡ length (decimal x)) where
+  whole : length (separated 32 decimal true (x ∷ rest)) ≡ n + length (separated 32 decimal false rest)
+  unfolding separated
+  whole = rw e (length-append (decimal x) (separated 32 decimal false rest))
+
+  pub first_more : n ≤ room → leb (length (separated 32 decimal true (x ∷ rest))) room ≡ leb (length (separated 32 decimal false rest)) (room - n)
+  first_more h = rw whole (leb_shift n _ room h)
+
+  pub first_none : ¬ (n ≤ room) → false ≡ leb (length (separated 32 decimal true (x ∷ rest))) room
+  first_none h = sym (lt-leb _ _ (omega (arith, whole, h)))
+
+pub none_fit : (ns : List ℕ) (room : ℕ) → length ns ≡ 0 → true ≡ leb (length (separated 32 decimal true ns)) room
+unfolding separated
+none_fit [] room e = sym (le-leb 0 room (omega arith))
+none_fit (x ∷ ns) room e = absurd (omega (arith, e))
 
 -- the line that ends so, of an element that is not spoilt; n bytes stand before its path
 module _ (begin tail : List ℕ) (e : Element) (asns out : List ℕ) (r : Bool) (told : r ≡ spoilt e asns) (sound : r ≡ false) (n : ℕ) (size : n ≡ length begin) where

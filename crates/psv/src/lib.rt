@@ -143,15 +143,18 @@ fn has_room(numbers: &[u32], room: usize) -> bool
     if surely {
         return true;
     }
-    let mut left = room;
-    let mut first = true;
-    for number in numbers {
-        let n = aspath_display::number_len(first, b' ', *number);
-        let Some(rest) = left.checked_sub(n) else {
+    let Some((first, rest)) = numbers.split_first() else {
+        return true;
+    };
+    let Some(mut left) = room.checked_sub(decimal_display::decimal_len(u64::from(*first))) else {
+        return false;
+    };
+    for number in rest {
+        let n = 1 + decimal_display::decimal_len(u64::from(*number));
+        let Some(after) = left.checked_sub(n) else {
             return false;
         };
-        left = rest;
-        first = false;
+        left = after;
     }
     true
 }
