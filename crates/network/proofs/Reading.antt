@@ -111,6 +111,9 @@ last_at c (b ∷ s) zero h e f = simp (le-ltb (last_place c s) (length s) (omega
 last_at c (b ∷ s) (suc j) h e f =
     let z : j ≡ last_place c s = last_at c s j (omega arith) e f in simp (lt-ltb (last_place c s) (length s) (omega arith), ← z)
 
+pub last_here : (c : ℕ) (s : List ℕ) (i : ℕ) → 0 < i → i ≤ length s → last_place c (drop i s) ≡ length (drop i s) → get_or s (i - 1) 0 ≡ c → i - 1 ≡ last_place c s
+last_here c s i p h f e = let z : suc (i - 1) ≡ i = omega arith in last_at c s (i - 1) (omega arith) e (rw z f)
+
 -- a list without c has no last place of it
 last_none : (c : ℕ) (s : List ℕ) → ((j : ℕ) → j < length s → get_or s j 0 ≡ c → ⊥) → last_place c s ≡ length s
 unfolding last_place
