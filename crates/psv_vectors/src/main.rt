@@ -104,7 +104,7 @@ impl Program for PsvCases {
         let mut room = [b'.'; 16384];
         let call = cases::field(line, 1);
         if matches!(call, b"header") {
-            let bytes = path_cases::first_bytes(&mut room, cases::number(line, 2));
+            let bytes = path_cases::first_mut(&mut room, cases::number(line, 2));
             let r = psv::get_psv_header(bytes);
             return put_header(r, bytes, out);
         }
@@ -115,8 +115,8 @@ impl Program for PsvCases {
         for (place, word) in numbers.iter_mut().zip(words) {
             *place = u32::from_be_bytes(*word);
         }
-        let asns = path_cases::first_numbers(&numbers, n / 4);
-        let bytes = path_cases::first_bytes(&mut room, cases::number(line, 15));
+        let asns = path_cases::first(&numbers, n / 4);
+        let bytes = path_cases::first_mut(&mut room, cases::number(line, 15));
         let e = element(line);
         let r = match call {
             b"display" => psv::display_element(e, asns, bytes),
