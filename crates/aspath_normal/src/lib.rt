@@ -94,6 +94,7 @@ fn coalesce_entries(kinds: &mut [u8], lengths: &mut [u32]) -> usize
 }
 
 // AsPath::coalesce. The numbers stay where they are.
+// Stays with a record of its lists, as dedup_coalesce: a function for both would take all five.
 #[tactic(auto, using(crate::proofs::Answers::record_laws))]
 pub fn coalesce(
     kinds: &mut [u8],
