@@ -60,7 +60,7 @@ module _ (d : Bool) (part : List ℕ) (left : List Segment) (empty : length part
   unfolding runs fold_map
   no_part none = rw (nil_from_length part empty, none)
 
--- and where it has some: the first, and what is left behind it
+-- and where it has some: the first, and what is left after it
 pub next_number : (d : Bool) (part others : List ℕ) (left : List Segment) (a : ℕ) (rest : List ℕ) → part ≡ a ∷ others → runs d rest ≡ after d a others
     → runs d part ++ joined d left ≡ a ∷ (runs d rest ++ joined d left)
 unfolding runs

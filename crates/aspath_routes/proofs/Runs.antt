@@ -29,7 +29,8 @@ unfolding runs after
 run_dropped a [] = refl
 run_dropped a (b ∷ s) = go (eqb b a) refl (run_dropped a s)
   where
-    go : (t : Bool) → eqb b a ≡ t → runs true (drop (prefix_len (λ c. eqb c a) s) s) ≡ after true a s → runs true (drop (cond t (1 + prefix_len (λ c. eqb c a) s) 0) (b ∷ s)) ≡ cond t (after true b s) (b ∷ after true b s)
+    go : (t : Bool) → eqb b a ≡ t → runs true (drop (prefix_len (λ c. eqb c a) s) s) ≡ after true a s
+        → runs true (drop (cond t (1 + prefix_len (λ c. eqb c a) s) 0) (b ∷ s)) ≡ cond t (after true b s) (b ∷ after true b s)
     go true e known = let z : b ≡ a = eqb-true b a e in rw (z, one-add) known
     go false e known = refl
 

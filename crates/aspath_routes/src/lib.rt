@@ -70,7 +70,7 @@ fn write_numbers(numbers: &[u32], out: &mut [u32]) -> usize
 #[derive(Clone, Copy)]
 struct Numbers<'a> {
     dedup: bool,
-    // what is left of one segment, and the segments behind it
+    // what is left of one segment, and the segments after it
     numbers: &'a [u32],
     segments: Segments<'a>,
 }

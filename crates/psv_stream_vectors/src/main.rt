@@ -84,7 +84,7 @@ fn feed(d: Driven, input: &[u8], piece: usize, bytes: &mut [u8]) -> Driven {
 
 fn step(d: Driven, bytes: &mut [u8], room: usize, out: &mut [u8]) -> Driven {
     let start = d.printed.min(out.len());
-    let lent = path_cases::first_bytes(&mut out[start..], room);
+    let lent = cases::first_mut(&mut out[start..], room);
     let ran = psv_stream::run(d.phase, cases::part(bytes, 0, d.filled), d.ended, lent);
     Driven {
         phase: ran.phase,
