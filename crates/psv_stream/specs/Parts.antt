@@ -104,11 +104,11 @@ Copies begin path e out new (Some w) =
     (length (asns_of path) ≤ 16384) × (length (copied_text begin path e) ≤ 65536) × Puts (copied_text begin path e ++ feed) out new w
 Copies begin path e out new None = new ≡ out
 
--- a line that ends at e does what z says
-abbrev pub Does : P.Step → List ℕ → ℕ → List ℕ → List ℕ → Step Phase → Type 0
-Does z s e out new (step.Took c w q) = Puts z.0 out new w × (z.1 ≡ stage_of q (drop c s)) × (c + header_bytes q ≡ e)
-Does z s e out new (step.Stops w) = Puts z.0 out new w × (z.1 ≡ stopped)
-Does z s e out new step.Starved = ⊥
+-- a line's text l does what z says: of it are c bytes consumed, and the others are of header lines that have come
+abbrev pub Does : P.Step → List ℕ → List ℕ → List ℕ → Step Phase → Type 0
+Does z l out new (step.Took c w q) = Puts z.0 out new w × (z.1 ≡ stage_of q (drop c l)) × (c + header_bytes q ≡ length l)
+Does z l out new (step.Stops w) = Puts z.0 out new w × (z.1 ≡ stopped)
+Does z l out new step.Starved = ⊥
 
 -- whatever comes later
 abbrev pub Steps : Phase → List ℕ → Bool → List ℕ → List ℕ → Step Phase → Type 0
@@ -212,4 +212,4 @@ Keeps σ start n step.Starved = Unit {0}
 
 -- what a line does that is not too long
 abbrev pub BodyDoes : State → Place → List ℕ → List ℕ → List ℕ → Step Place → Type 0
-BodyDoes σ b l out new r = (s : List ℕ) → Does (acts (phase_of σ b) l) s (length l) out new (step_of σ r)
+BodyDoes σ b l out new r = Does (acts (phase_of σ b) l) l out new (step_of σ r)
