@@ -1,5 +1,5 @@
 -- For the parts of a run: what the line comes to that comes next, and what is written of it.
-use Rattle.std.specs.Prelude.{◌≡◌, ℕ, ◌+◌, ◌-◌, ◌*◌, ◌/◌, ◌%◌, ◌^◌, ◌<◌, ◌≤◌, Bool, true, false, cond, List, [], ◌++◌, length, take, drop, nat_le, Result, Ok, Err, Option, Some, None}
+use Rattle.std.specs.Prelude.{◌≡◌, ℕ, ◌+◌, ◌-◌, ◌<◌, ◌≤◌, Bool, true, false, cond, List, [], ◌++◌, length, get_or, take, drop, nat_le, Result, Ok, Err, Option, Some, None}
 use Rattle.input.specs.Input.{Starved}
 use Rattle.word.specs.Word.{little_endian}
 use Rattle.decimal.specs.Decimal.{leading}
@@ -77,16 +77,17 @@ pub record Spells (path : List ℕ) (last end : ℕ) : Type 0 where
   pub text : take end path ≡ sequence_text (asns_of path)
   pub asn : take (end - last) (drop last path) ≡ asn_text (origin_asn (asns_of path))
 
--- a word begins with n digits, which are a number of a plain path
-pub record PlainNumber (w n : ℕ) : Type 0 where
-  pub count : n ≡ length (leading (little_endian w))
-  pub some : n ≡ 0 → ⊥
+-- a text begins with a number of a plain path: n digits and no more, at most seven, the first of them no 0, and a space after them
+pub record PlainNumber (text : List ℕ) (n : ℕ) : Type 0 where
+  pub digits : n ≡ length (leading text)
+  pub some : 0 < n
   pub few : n ≤ 7
-  pub space : w / 2 ^ (8 * n) % 256 ≡ 32
-  pub no_zero : w % 256 ≡ 48 → ⊥
+  pub no_zero : get_or text 0 0 ≡ 48 → ⊥
+  pub space : get_or text n 0 ≡ 32
 
+-- the same of a word's bytes
 abbrev pub PlainDigits : ℕ → Option ℕ → Type 0
-PlainDigits w (Some n) = PlainNumber w n
+PlainDigits w (Some n) = PlainNumber (little_endian w) n
 PlainDigits w None = Unit {0}
 
 -- what is told of a plain path; of others nothing is

@@ -47,10 +47,7 @@ fn plain_digits(w: u64) -> Option<usize>
     ensures { PlainDigits w result }
 {
     let n = decimal::digit_count(w);
-    if n == 0 {
-        return None;
-    }
-    if 7 < n {
+    if n == 0 || 7 < n {
         return None;
     }
     if (w >> (8 * n as u64)) % 256 != 32 {
