@@ -2,6 +2,8 @@
 use Rattle.std.specs.Prelude.{Result, Ok, Err, Option, Some, None}
 use Rattle.std.proofs.Common.{◌≡◌, ℕ, ◌+◌, ◌-◌, ◌*◌, ◌/◌, ◌%◌, ◌^◌, ◌<◌, ◌≤◌, Fits, w64, false, eqb, List, [], ◌∷◌, ◌++◌, map, length, get_or, take, drop, sym, refl, ap, ◌∙◌, subst, append_assoc, append-nil, add-one, arith, length-take, take-suc, take-add, ne_eqb, leb-true}
 use native.Mathlib.Nat.{pow-le-pow_right}
+use Rattle.std.proofs.lemmas.Option.{none-some}
+use Rattle.std.specs.Result.{result_ok}
 use Rattle.output.specs.Output.{Written, front, answer}
 use Rattle.output.specs.declared.PutError.{PutError}
 use Rattle.output.specs.declared.PutError.TheVariants.{TooShort}
@@ -149,8 +151,12 @@ module _ (begin path : List ℕ) (e : Element) (out part : List ℕ) (last end :
       let y = part_put out part room text n (known (Ok n) f) new w v in
       (leb-true (length (asns_of path)) 16384 (sym (many_places path 16384 few)), y.0, y.1)
 
-  pub copied_short : (z : PutError) → r ≡ Err z → Copies begin path e out (part ++ drop 65536 out) None
-  copied_short TooShort f = whole_again out part room (known (Err TooShort) f).1
+  copied_short : (q : Result ℕ PutError) → Told text (take 65536 out) part q → result_ok q ≡ None → part ++ drop 65536 out ≡ out
+  copied_short (Ok n) h f = absurd (none-some n (sym f))
+  copied_short (Err TooShort) h f = whole_again out part room h.1
+
+  pub copied_none : result_ok r ≡ None → (w : Option ℕ) → w ≡ None → Copies begin path e out (part ++ drop 65536 out) w
+  copied_none f w g = rw g (copied_short r (known r refl) f)
 
 -- for the walk over a path
 pub ruleset walk_laws = (copied_starts, copied_ends, copied_inside, copied_more)

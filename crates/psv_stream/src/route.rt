@@ -94,10 +94,8 @@ fn copy_route(begin: &[u8], path: &[u8], e: Element, out: &mut [u8; LINE]) -> Op
         return None;
     }
     let (last, end) = plain_path(path)?;
-    let Ok(n) = psv::put_texts(begin, &path[..end], &path[last..end], e, &mut out[..65536]) else {
-        return None;
-    };
-    let mut w = Writer { out, at: n };
+    let at = psv::put_texts(begin, &path[..end], &path[last..end], e, &mut out[..65536]).ok()?;
+    let mut w = Writer { out, at };
     w.byte(b'\n');
     Some(w.at)
 }
