@@ -79,7 +79,8 @@ fn header_line(t: f64, number: u64, lines: &[u8], out: &mut [u8; LINE]) -> Step<
     }
 }
 
-// Is the next line taken by the loop over the head? It is until the table is open; under a spoilt state too, where a line is only refused.
+// Is the next line taken by the loop over the head? It is until the table is open; under a spoilt
+// state too, where a line is only refused.
 #[tactic(auto, using(crate::proofs::Lines::head_body))]
 pub(crate) fn is_head(phase: Phase) -> bool
     ensures { result ≡ is_head phase }
@@ -155,6 +156,8 @@ pub(crate) fn take_head(phase: Phase, input: &[u8], ended: bool, out: &mut [u8])
         written: 0,
         starved: false,
     };
+    // Stays a while: the head ends at the line that opens the table, which no iterator over the
+    // input says.
     while is_head(ran.phase) {
         let rest = &mut out[ran.written..];
         let Some(step) = next_line(ran.phase, &input[ran.consumed..], ended, rest) else {

@@ -1,4 +1,4 @@
-// The line of a route: copied where its path stands as it is printed, else by the numbers of the path.
+// The line of a route: copied where its path stands as it is printed, else by the path's numbers.
 ghost use Rattle.std.specs.Prelude.{◌≡◌, ◌<◌, ◌++◌, length};
 ghost use Rattle.psv.specs.Line.{between_text};
 ghost use Rattle.path_text.specs.Path.{asns_of};
