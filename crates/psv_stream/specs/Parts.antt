@@ -193,6 +193,7 @@ step_of σ (step.Took c w b) = step.Took c w (phase_of σ b)
 step_of σ (step.Stops w) = step.Stops w
 step_of σ step.Starved = step.Starved
 
+-- whatever comes later, of a step of that loop
 abbrev pub BodySteps : State → Place → List ℕ → Bool → List ℕ → List ℕ → Step Place → Type 0
 BodySteps σ b s ended out new r = Steps (phase_of σ b) s ended out new (step_of σ r)
 
