@@ -65,11 +65,11 @@ module _ (σ : State) (b : Place) (start : List ℕ) (n : ℕ) (kept : Kept σ s
   -- a line that only moves the state
   moves : (q : Packed) (k : ℕ) → next_of here l ≡ (end, moved σ (record { at = length l; remembered = plain (remembered_in q) })) → (out : List ℕ)
       → BodyDoes σ b l out out (step.Took (length l) 0 (there (length l) q k))
-  moves q k f out s = rw f (puts_none out, refl, omega arith)
+  moves q k f out = rw f (puts_none out, refl, omega arith)
 
   module _ (y : Line) (c : y ≡ line_of σ.columns l) where
     pub six : y ≡ read.Unreadable → (out new : List ℕ) (w : ℕ) → Puts (refusal_text 6 (after b.number)) out new w → BodyDoes σ b l out new (step.Stops w)
-    six h out new w d s = refused_does s (length l) out (acts (phase_of σ b) l) 6 (after b.number) (rw (unreadable_line_lem here l 16384 one fine_here y c h)) new w d
+    six h out new w d = refused_does l out (acts (phase_of σ b) l) 6 (after b.number) (rw (unreadable_line_lem here l 16384 one fine_here y c h)) new w d
 
     pub passed : y ≡ read.Passed → (out : List ℕ) → BodyDoes σ b l out out (step.Took (length l) 0 (there (length l) b.memory b.start_len))
     passed h =
@@ -159,14 +159,14 @@ module _ {σ : State} {b : Place} {start : List ℕ} {n : ℕ} {l : List ℕ} {x
 
   module _ (out new : List ℕ) (r : Result ℕ Refusal) (put : PutRoute σ p e (asns_of (path_of e l)) out new r) where
     pub route_wrote : (w k : ℕ) → r ≡ Ok w → BodyDoes σ b l out new (step.Took (length l) w (next_place k))
-    route_wrote w k f s =
+    route_wrote w k f =
         let h : PutRoute σ p e (asns_of (path_of e l)) out new (Ok w) = rw f at put in
         rw (acts_so, h.0 (after b.number) behind) (h.1, rw u.prefix, omega arith)
 
     pub route_refused : (z : Refusal) → r ≡ Err z → (newer : List ℕ) (w : ℕ) → Puts (refusal_text (number_of z) (after b.number)) new newer w → BodyDoes σ b l out newer (step.Stops w)
-    route_refused z f newer w d s =
+    route_refused z f newer w d =
         let h : PutRoute σ p e (asns_of (path_of e l)) out new (Err z) = rw f at put in
-        refused_does s (length l) out (acts (phase_of σ b) l) (number_of z) (after b.number) (acts_so ∙ h.0 (after b.number) behind) newer w (rw h.1 at d)
+        refused_does l out (acts (phase_of σ b) l) (number_of z) (after b.number) (acts_so ∙ h.0 (after b.number) behind) newer w (rw h.1 at d)
 
   -- behind what its line begins with
   module _ (k : ℕ) (short : k ≡ kept_len x b.start_len) (start' : List ℕ) (k' : ℕ) (printed : (f : List ℕ) → Begins f start n (remembered.Valid p) k → Begins f start' n (remembered.Valid p) k') where
@@ -211,8 +211,7 @@ module _ (σ : State) (b : Place) (s : List ℕ) (ended : Bool) (f : Front) (kno
 
   pub line_steps : (e : ℕ) → f ≡ front.Line e → (out new : List ℕ) (r : Step Place) → BodyDoes σ b (take e s) out new r
       → Steps (phase_of σ b) s ended out new (step_of σ r)
-  line_steps e g out new r d =
-      steps.line_steps (phase_of σ b) s ended 0 refl f known out new (step_of σ r) e g (rw (← line_size e g) at (d s))
+  line_steps e g out new r = steps.line_steps (phase_of σ b) s ended 0 refl f known out new (step_of σ r) e g
 
 -- the loop: where its lines have come to
 pub record At (σ : State) (number : ℕ) (s : List ℕ) (ended : Bool) (out₀ : List ℕ) (b : Place) (c w : ℕ) (out : List ℕ) : Type 0 where

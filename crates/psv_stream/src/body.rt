@@ -19,8 +19,11 @@ use psv::Source;
 use text_dump::State;
 use text_dump_line::{Line, PrefixText, RouteEntry};
 
-// Where the loop over the body's lines stands: what the state remembers, packed, and where it is, how many lines of the listing have come, and how
-// many bytes of what the lines under the remembered prefix begin with are printed: all of them, or none.
+// Where the loop over the body's lines stands: what the state remembers, packed, and where it is,
+// how many lines of the listing have come, and the length of the cached start, the text that the
+// lines under the remembered prefix begin with.
+// Stays a length: a text that is not printed yet is empty, and an Option would say so twice, by
+// None and by Some(0). The same holds of front_len.
 #[derive(Clone, Copy)]
 struct Place {
     position: usize,
@@ -31,6 +34,8 @@ struct Place {
 
 // What a run of the body works in. The first front_len bytes of start are the front of all lines;
 // asns are 01's AS places.
+// Stays apart from the state and the place: after a refused line the start may be of its prefix and
+// the place of the line before it, so what Kept says of the three is no invariant of one struct.
 #[derive(Drop)]
 struct Buffers {
     start: [u8; 160],
@@ -48,8 +53,7 @@ impl Buffers {
     }
 }
 
-// Fills the cached start of the lines under a prefix, if it is not yet and has room: how many bytes
-// it has, or 0.
+// Fills the cached start of the lines under a prefix, if it is empty and has room: its length then.
 #[tactic(auto, using(crate::proofs::Routes::none_begun))]
 fn start_of(start: &mut [u8], front_len: usize, prefix: NetworkPrefix, start_len: usize) -> usize
     ensures { (front : List ℕ) → Begins front start.old front_len (remembered.Valid prefix) start_len → Begins front start.new front_len (remembered.Valid prefix) result }
@@ -217,8 +221,8 @@ fn body_ran(state: State, b: Place, consumed: usize, written: usize, starved: bo
 }
 
 // Takes lines of the body as long as there is a whole one, and room for what it may print.
-// Stays a loop of its own: a trait for both (the phase of a place, what holds before a line, whether
-// the next line is of this part, a step) and its two impls have more lines than the two loops.
+// Stays a loop of its own: a trait for both (the phase of a place, what holds before a line,
+// whether the next line is of this part, a step) and its two impls have more lines than both loops.
 #[tactic(auto, using(crate::proofs::Bodies::body_laws))]
 fn take_body(
     buffers: &mut Buffers,
@@ -271,7 +275,7 @@ fn take_body(
     body_ran(state, b, consumed, written, false)
 }
 
-// Prints what the lines of a table begin with: how many bytes it has, or 0.
+// Prints what the lines of a table begin with: its length, 0 where it has no room.
 fn put_start(state: State, out: &mut [u8]) -> usize
     ensures { Begins (front_of state) out.new result state.remembered 0 }
 {
@@ -284,7 +288,8 @@ fn put_start(state: State, out: &mut [u8]) -> usize
     psv::put_front(source, out).unwrap_or(0)
 }
 
-// A run from the body on. What its lines begin with is printed once, the field of a prefix once for its lines.
+// A run from the body on. What its lines begin with is printed once, the field of a prefix once for
+// its lines.
 pub(crate) fn run_body(state: State, number: u64, input: &[u8], ended: bool, out: &mut [u8]) -> Ran
     requires { Fine state state.remembered }
     ensures { Runs (phase.Body state number) input.now ended out.old result out.new }

@@ -1,5 +1,5 @@
 // The head of the input: the path line and the lines scanned for the column header.
-ghost use Rattle.std.specs.Prelude.{◌≡◌, ◌≤◌, true, ◌++◌, length, take};
+ghost use Rattle.std.specs.Prelude.{◌≡◌, true, ◌++◌};
 ghost use Rattle.psv.specs.Line.{header_text};
 ghost use Rattle.timestamp.specs.Dates.{infer_timestamp};
 ghost use Rattle.text_dump.specs.Open.{open_of};
@@ -39,12 +39,11 @@ fn too_long(phase: Phase, out: &mut [u8; LINE]) -> usize
     }
 }
 
-fn path_line(input: &[u8], end: usize, out: &mut [u8; LINE]) -> Step<Phase>
-    requires end_in_bounds { end ≤ length input.now }
-    ensures { Does (dated (infer_timestamp (take end input.now))) input.now end out.old out.new result }
+fn path_line(line: &[u8], out: &mut [u8; LINE]) -> Step<Phase>
+    ensures { Does (dated (infer_timestamp line.now)) line.now out.old out.new result }
 {
-    match timestamp::infer_timestamp_from_path(&input[..end]) {
-        Ok(date) => Step::Took(end, 0, Phase::Header(date.unwrap_or(0.0), 0, 0)),
+    match timestamp::infer_timestamp_from_path(line) {
+        Ok(date) => Step::Took(line.len(), 0, Phase::Header(date.unwrap_or(0.0), 0, 0)),
         Err(InferError::NotUtf8) => Step::Stops(refuse(Refusal::PathNotUtf8, 0, out)),
     }
 }
@@ -58,13 +57,12 @@ fn put_header(out: &mut [u8; LINE]) -> usize
     w.at
 }
 
-// Tries to open input[..end], the first lines of the listing, as many as `number` says.
-fn header_line(t: f64, number: u64, input: &[u8], end: usize, out: &mut [u8; LINE]) -> Step<Phase>
-    requires end_in_bounds { end ≤ length input.now }
-    ensures { Does (scanned t number (take end input.now) (open_of t (take end input.now))) input.now end out.old out.new result }
+// Tries to open the listing by its first lines, as many as `number` says.
+fn header_line(t: f64, number: u64, lines: &[u8], out: &mut [u8; LINE]) -> Step<Phase>
+    ensures { Does (scanned t number lines.now (open_of t lines.now)) lines.now out.old out.new result }
 {
-    match State::open(&input[..end], t) {
-        Ok(state) => Step::Took(end, put_header(out), Phase::Body(state, number)),
+    match State::open(lines, t) {
+        Ok(state) => Step::Took(lines.len(), put_header(out), Phase::Body(state, number)),
         Err(OpenError::Unreadable(line)) => Step::Stops(refuse(
             Refusal::UnreadableHeader,
             line as u64,
@@ -74,14 +72,15 @@ fn header_line(t: f64, number: u64, input: &[u8], end: usize, out: &mut [u8; LIN
         Err(OpenError::NoColumns) => {
             let more = number < 64;
             if more {
-                return Step::Took(0, 0, Phase::Header(t, number, end));
+                return Step::Took(0, 0, Phase::Header(t, number, lines.len()));
             }
             Step::Stops(refuse(Refusal::NoColumns, 0, out))
         }
     }
 }
 
-// Is the next line taken by the loop over the head? It is until the table is open; under a spoilt state too, where a line is only refused.
+// Is the next line taken by the loop over the head? It is until the table is open; under a spoilt
+// state too, where a line is only refused.
 #[tactic(auto, using(crate::proofs::Lines::head_body))]
 pub(crate) fn is_head(phase: Phase) -> bool
     ensures { result ≡ is_head phase }
@@ -94,18 +93,17 @@ pub(crate) fn is_head(phase: Phase) -> bool
     }
 }
 
-// A line that ends there, and is not too long.
+// A line that is not too long; of a header line, the text with all before it.
 #[tactic(auto, using(crate::proofs::Lines::on_laws))]
-fn on_line(phase: Phase, input: &[u8], end: usize, out: &mut [u8; LINE]) -> Step<Phase>
-    requires end_in_bounds { end ≤ length input.now }
-    requires phase_value { is_head phase ≡ true }
-    ensures { Does (acts phase (take end input.now)) input.now end out.old out.new result }
+fn on_line(phase: Phase, text: &[u8], out: &mut [u8; LINE]) -> Step<Phase>
+    requires { is_head phase ≡ true }
+    ensures { Does (acts phase text.now) text.now out.old out.new result }
 {
     match phase {
-        Phase::Path => path_line(input, end, out),
+        Phase::Path => path_line(text, out),
         Phase::Header(t, n, _) => {
             let number = n.wrapping_add(1);
-            header_line(t, number, input, end, out)
+            header_line(t, number, text, out)
         }
         Phase::Body(_, n) => Step::Stops(refuse(Refusal::SpoiltState, n.wrapping_add(1), out)),
         Phase::Stopped => Step::Stops(0),
@@ -133,7 +131,7 @@ fn take_line(phase: Phase, input: &[u8], ended: bool, out: &mut [u8; LINE]) -> S
         Front::Starved => Step::Starved,
         Front::Nothing => Step::Stops(end(phase, out)),
         Front::TooLong => Step::Stops(too_long(phase, out)),
-        Front::Line(end) => on_line(phase, input, end, out),
+        Front::Line(end) => on_line(phase, &input[..end], out),
     }
 }
 
@@ -158,6 +156,8 @@ pub(crate) fn take_head(phase: Phase, input: &[u8], ended: bool, out: &mut [u8])
         written: 0,
         starved: false,
     };
+    // Stays a while: the head ends at the line that opens the table, which no iterator over the
+    // input says.
     while is_head(ran.phase) {
         let rest = &mut out[ran.written..];
         let Some(step) = next_line(ran.phase, &input[ran.consumed..], ended, rest) else {

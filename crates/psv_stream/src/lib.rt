@@ -27,8 +27,8 @@ const LINE: usize = 65537;
 pub enum Phase {
     // The path line.
     Path,
-    // A line scanned for the column header: the timestamp, how many lines of the listing have come, and how many of the bytes that are not
-    // consumed are theirs.
+    // A line scanned for the column header: the timestamp, how many lines of the listing have come,
+    // and how many of the bytes that are not consumed are theirs.
     Header(f64, u64, usize),
     // A body line: the reading state, and how many lines of the listing have come.
     Body(State, u64),
@@ -101,8 +101,8 @@ enum Step<P> {
     Starved,
 }
 
-// How far a run came: the new phase, how many bytes of the input are consumed and how many of the output written, and whether it wants more
-// input.
+// How far a run came: the new phase, how many bytes of the input are consumed and how many of the
+// output written, and whether it wants more input.
 #[derive(Clone, Copy)]
 pub struct Ran {
     pub phase: Phase,

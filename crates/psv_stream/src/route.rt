@@ -1,4 +1,4 @@
-// The line of a route: copied where its path stands as it is printed, else by the numbers of the path.
+// The line of a route: copied where its path stands as it is printed, else by the path's numbers.
 ghost use Rattle.std.specs.Prelude.{◌≡◌, ◌<◌, ◌++◌, length};
 ghost use Rattle.psv.specs.Line.{between_text};
 ghost use Rattle.path_text.specs.Path.{asns_of};
@@ -47,10 +47,7 @@ fn plain_digits(w: u64) -> Option<usize>
     ensures { PlainDigits w result }
 {
     let n = decimal::digit_count(w);
-    if n == 0 {
-        return None;
-    }
-    if 7 < n {
+    if n == 0 || 7 < n {
         return None;
     }
     if (w >> (8 * n as u64)) % 256 != 32 {
@@ -97,10 +94,8 @@ fn copy_route(begin: &[u8], path: &[u8], e: Element, out: &mut [u8; LINE]) -> Op
         return None;
     }
     let (last, end) = plain_path(path)?;
-    let Ok(n) = psv::put_texts(begin, &path[..end], &path[last..end], e, &mut out[..65536]) else {
-        return None;
-    };
-    let mut w = Writer { out, at: n };
+    let at = psv::put_texts(begin, &path[..end], &path[last..end], e, &mut out[..65536]).ok()?;
+    let mut w = Writer { out, at };
     w.byte(b'\n');
     Some(w.at)
 }

@@ -3,7 +3,7 @@ use Rattle.psv_stream.proofs.Lines.{opens, no_columns_yet, no_columns, unreadabl
 use Rattle.psv_stream.proofs.head.header_line.Goals as goal
 
 pub returns-then-more : goal.returns-then-more
-returns-then-more c = search (no_columns_yet, arith)
+returns-then-more c = no_columns_yet _ c.args.out.now _ _ _ c.open.ensures (search rules) c.if-more.true
 
 pub returns-in-Ok : goal.returns-in-Ok
 returns-in-Ok c = search opens

@@ -1,6 +1,6 @@
-use Rattle.std.proofs.Common.{arith, length-take, rules}
+use Rattle.std.proofs.Common.{sym, ◌∙◌, arith, length-take, rules}
 use Rattle.psv_stream.proofs.Texts.{written_by}
-use Rattle.psv_stream.proofs.Copying.{spelled, spelled_order, spelled_inside, copied_put, copied_short}
+use Rattle.psv_stream.proofs.Copying.{spelled, spelled_order, spelled_inside, copied_put, copied_none}
 use Rattle.psv_stream.proofs.route.copy_route.Goals as goal
 
 pub slice_bounds-put_texts-end : goal.slice_bounds-put_texts-end
@@ -20,10 +20,10 @@ slice_bounds-put_texts-end-2 c = spelled_inside _ _ c.plain_path.ensures _ _ c.i
 pub slice_bounds-put_texts-end-4 : goal.slice_bounds-put_texts-end-4
 slice_bounds-put_texts-end-4 c = simp length-take (omega arith)
 
-pub returns-in_default : goal.returns-in_default
-returns-in_default c =
-    copied_short _ _ _ _ _ _ _ _ (search rules) (spelled _ _ c.plain_path.ensures _ _ c.in_ok-last.was) c.put_texts.ensures _ c.in_default.is
+pub returns-in_err-at : goal.returns-in_err-at
+returns-in_err-at c =
+    copied_none _ _ _ _ _ _ _ _ (search rules) (spelled _ _ c.plain_path.ensures _ _ c.in_ok-last.was) c.put_texts.ensures (sym c.ok.ensures.value ∙ c.in_err-at.was) _ c.from_residual-in_err-at.ensures
 
 pub returns : goal.returns
 returns c =
-    copied_put _ _ _ _ _ _ _ _ (search rules) (spelled _ _ c.plain_path.ensures _ _ c.in_ok-last.was) c.put_texts.ensures c.if-path-gt16384.false _ c.in-Ok.is _ _ (written_by c.byte.ensures (search rules))
+    copied_put _ _ _ _ _ _ _ _ (search rules) (spelled _ _ c.plain_path.ensures _ _ c.in_ok-last.was) c.put_texts.ensures c.if-path-gt16384.false _ (search rules) _ _ (written_by c.byte.ensures (search rules))
