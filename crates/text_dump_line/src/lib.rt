@@ -61,6 +61,7 @@ fn prefix_text(s: &[u8]) -> PrefixText
     if fields::is_blank(s) {
         return PrefixText::Blank;
     }
+    // Stays let .. else, as in Row::route.
     let Some(p) = fields::read_prefix(s) else {
         return PrefixText::Invalid;
     };
@@ -163,8 +164,8 @@ impl<'a> Row<'a> {
         }
     }
 
-    // One place calls `number`, so that the compiler joins it in and copies no number in between: the
-    // metric is read first, and handed on when the local preference is read.
+    // One place calls `number`, so that the compiler joins it in and copies no number in between:
+    // the metric is read first, and handed on when the local preference is read.
     #[tactic(auto, using(crate::proofs::LineLaws::entry_laws))]
     fn entry(self, next_hop: IpAddr) -> RouteEntry
         ensures { result ≡ entry_of self.entry.columns next_hop self.entry.text.now }
@@ -195,7 +196,7 @@ impl<'a> Row<'a> {
         if is_displayed(self.text) {
             return None;
         }
-        // Stays let .. else: 01 names the form for an address, a prefix or columns that may be missing.
+        // Stays let .. else: 01 names it for an address, a prefix or columns that may be missing.
         let Some(next_hop) = self.next_hop() else {
             return None;
         };
@@ -258,6 +259,7 @@ pub fn line_of(line: &[u8], columns: Columns) -> Line
     if let Some((prefix, entry)) = any_route(ascii, t, columns) {
         return Line::Route(entry, prefix);
     }
+    // Stays let .. else, as in Row::route.
     let Some(p) = parse_wrapped_prefix_line(t, columns.next_hop) else {
         return Line::Passed;
     };
