@@ -1,5 +1,5 @@
-// The timestamp that state and element hold: an f64 that counts whole seconds from 1970, from the year 0 to the year 9999.
-// Here a second is a u64 counted from the start of the year 0.
+// The timestamp that state and element hold: an f64 that counts whole seconds from 1970, from the
+// year 0 to the year 9999. Here a second is a u64 counted from the start of the year 0.
 #![tactic(auto)]
 
 ghost use Rattle.std.specs.Prelude.{◌≡◌, ◌≤◌, length};
@@ -53,7 +53,8 @@ pub fn is_timestamp(t: f64) -> bool
     second_of(t).is_some()
 }
 
-// The timestamp of a second, exact for every second of the years 0 to 9999; beyond them the nearest float.
+// The timestamp of a second, exact for every second of the years 0 to 9999; beyond them the nearest
+// float.
 pub fn timestamp_of(second: u64) -> f64
     ensures { result ≡ timestamp_of second }
 {
