@@ -1,7 +1,5 @@
 -- Laws of a case's answer.
-use lib.Ieee.{binary64, nan_bits}
-use lib.Ieee.Bits.{nan_bits_above}
-use Rattle.std.proofs.Common.{◌≡◌, ℕ, ◌+◌, ◌-◌, ◌%◌, ◌^◌, ◌≤◌, ◌==◌, Bool, true, false, not, cond, eqb, nat_lt, Some, None, position, List, [], ◌∷◌, length, take, drop, sym, refl, ◌∙◌, zero-add, arith, length-drop, drop_of_length-le, take_all, ne_eqb, T, subst, le-ltb}
+use Rattle.std.proofs.Common.{◌≡◌, ℕ, ◌+◌, ◌-◌, ◌%◌, ◌^◌, ◌≤◌, ◌==◌, Bool, true, false, not, cond, eqb, nat_lt, Some, None, position, List, [], ◌∷◌, length, take, drop, sym, refl, ◌∙◌, zero-add, arith, length-drop, drop_of_length-le, take_all, ne_eqb}
 use Rattle.std.specs.List.{position_or_len}
 use Rattle.std.proofs.lemmas.List.Recursion.{is_position_or_len}
 use Rattle.std.proofs.lemmas.Bool.Decides.{nat_tests}
@@ -60,7 +58,3 @@ module _ (t : Tally) (right r : Bool) (n : ℕ) (q : r ≡ right) (c : n ≡ (t.
   pub wrongly : (m : ℕ) → r ≡ false → m ≡ (t.mismatches + 1) % 2 ^ 64 → record { cases = n; mismatches = m } ≡ counted t right
   unfolding counted
   wrongly m h d = rw (c, d, sym q ∙ h)
-
--- bits that are no NaN's
-pub of_number : (n : ℕ) → n % 0x8000_0000_0000_0000 ≤ 0x7ff0_0000_0000_0000 → T (not (nan_bits binary64 n))
-of_number n h = subst (λ (b : Bool). T (not b)) (sym (nan_bits_above binary64 n ∙ le-ltb _ _ h)) tt

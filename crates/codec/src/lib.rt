@@ -241,10 +241,7 @@ fn remembered_of(w: RememberedWords) -> Option<Remembered>
 fn float_of(bits: u64) -> f64
     ensures { result ≡ of_bits binary64 bits }
 {
-    if bits % 0x8000_0000_0000_0000 > 0x7ff0_0000_0000_0000 {
-        return 0.0 / 0.0;
-    }
-    f64::from_bits(bits)
+    seconds::float_of_bits(bits).unwrap_or(0.0 / 0.0)
 }
 
 // The state that the words spell with any bits as its timestamp; None where they spell none. It is

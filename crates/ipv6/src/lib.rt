@@ -164,7 +164,8 @@ fn whole(r: Groups) -> Option<(u64, u64)>
     }
 }
 
-// Left and right of "::", with the zero groups that it stands for. The right side is read once for its count.
+// Left and right of "::", with the zero groups that it stands for. The right side is read once for
+// its count.
 #[tactic(auto, using(crate::proofs::Sides::around_left, crate::proofs::Sides::around_right, crate::proofs::Sides::count_fits, crate::proofs::Sides::around_many, crate::proofs::Sides::around_unfilled, crate::proofs::Sides::around_over, crate::proofs::Sides::around_whole))]
 fn around(left: &[u8], right: &[u8]) -> Option<(u64, u64)>
     ensures { result ≡ as_ipv6 (filled (side_of false left.now) (side_of true right.now)) }
