@@ -57,10 +57,10 @@ pub fn load(line: &[u8], first: usize) -> Lists {
     let mut kinds = [0; 64];
     let mut lengths = [0; 64];
     let mut numbers = [0; 256];
-    let nk = cases::hex(cases::field(line, first), &mut kinds);
-    let ml = cases::hex(cases::field(line, second), &mut s);
+    let nk = cases::hex(cases::field(line, first), &mut kinds).len();
+    let ml = cases::hex(cases::field(line, second), &mut s).len();
     let nl = byte_numbers(cases::part(&s, 0, ml), &mut lengths);
-    let mn = cases::hex(cases::field(line, third), &mut s);
+    let mn = cases::hex(cases::field(line, third), &mut s).len();
     let nn = word_numbers(cases::part(&s, 0, mn), &mut numbers);
     Lists {
         kinds,
