@@ -67,7 +67,7 @@ fn load_fields<B: Fn(&[u8], &mut [u8]) -> usize, N: Fn(&[u8], &mut [u32]) -> usi
 pub fn load(line: &[u8], first: usize) -> Lists {
     let [second, third] = if first == 1 { [2, 3] } else { [7, 8] };
     let fields = [first, second, third].map(|n| cases::field(line, n));
-    load_fields(fields, cases::hex, word_numbers)
+    load_fields(fields, |s, out| cases::hex(s, out).len(), word_numbers)
 }
 
 // The record of an `all`, with one digit for each kind, length and number.

@@ -37,10 +37,10 @@ fn put_part(s: &[u8], w: &mut Writer) {
     let mut halves = s.splitn(2, |b| *b == b'*');
     let digits = halves.next().unwrap_or(&[]);
     let n = times(halves.next().unwrap_or(&[]));
-    let mut bytes = [0; 4096];
-    let m = cases::hex(digits, &mut bytes);
+    let mut room = [0; 4096];
+    let bytes = cases::hex(digits, &mut room);
     for _ in 0..n {
-        w.bytes(cases::part(&bytes, 0, m));
+        w.bytes(bytes);
     }
 }
 
