@@ -1,14 +1,11 @@
 -- Laws of a case's answer.
-use lib.Ieee.{binary64, nan_bits}
-use lib.Ieee.Bits.{nan_bits_above}
-use Rattle.std.proofs.Common.{◌≡◌, ℕ, ◌+◌, ◌-◌, ◌%◌, ◌^◌, ◌≤◌, ◌==◌, Bool, true, false, not, cond, eqb, nat_lt, Some, None, position, List, [], ◌∷◌, length, take, drop, sym, refl, ◌∙◌, zero-add, arith, length-drop, drop_of_length-le, take_all, ne_eqb, T, subst, le-ltb}
+use Rattle.std.proofs.Common.{◌≡◌, ℕ, ◌+◌, ◌-◌, ◌≤◌, ◌==◌, Bool, true, false, not, cond, eqb, nat_lt, Some, None, position, List, [], ◌∷◌, length, take, drop, sym, refl, ◌∙◌, zero-add, arith, length-drop, drop_of_length-le, take_all, ne_eqb}
 use Rattle.std.specs.List.{position_or_len}
 use Rattle.std.proofs.lemmas.List.Recursion.{is_position_or_len}
 use Rattle.std.proofs.lemmas.Bool.Decides.{nat_tests}
 use Rattle.scan.specs.Lists.{take_while, end_while}
 use Rattle.scan.specs.Search.{equal}
-use Rattle.cases.specs.Cases.{not_tab, answer_of, counted}
-use Rattle.cases.specs.declared.Tally.{Tally}
+use Rattle.cases.specs.Cases.{not_tab, answer_of}
 
 -- the first tab
 tab_step : (x : ℕ) (s : List ℕ) → length (take_while not_tab (x ∷ s)) ≡ cond (x == 9) 0 (1 + length (take_while not_tab s))
@@ -50,17 +47,3 @@ module _ (s got : List ℕ) where
       nothing : (l : List ℕ) → eqb (length l) 0 ≡ equal [] l
       nothing [] = refl
       nothing (x ∷ l) = ne_eqb (length (x ∷ l)) 0 (λ z. omega arith)
-
--- a case counted
-module _ (t : Tally) (right r : Bool) (n : ℕ) (q : r ≡ right) (c : n ≡ (t.cases + 1) % 2 ^ 64) where
-  pub rightly : r ≡ true → record { cases = n; mismatches = t.mismatches } ≡ counted t right
-  unfolding counted
-  rightly h = rw (c, sym q ∙ h)
-
-  pub wrongly : (m : ℕ) → r ≡ false → m ≡ (t.mismatches + 1) % 2 ^ 64 → record { cases = n; mismatches = m } ≡ counted t right
-  unfolding counted
-  wrongly m h d = rw (c, d, sym q ∙ h)
-
--- bits that are no NaN's
-pub of_number : (n : ℕ) → n % 0x8000_0000_0000_0000 ≤ 0x7ff0_0000_0000_0000 → T (not (nan_bits binary64 n))
-of_number n h = subst (λ (b : Bool). T (not b)) (sym (nan_bits_above binary64 n ∙ le-ltb _ _ h)) tt

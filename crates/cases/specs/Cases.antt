@@ -3,6 +3,7 @@ use Rattle.std.specs.Prelude.{ℕ, ◌+◌, ◌-◌, ◌%◌, ◌^◌, Bool, con
 use Rattle.std.specs.Float.{binary64}
 use Rattle.scan.specs.Lists.{end_while}
 use Rattle.cases.specs.declared.Tally.{Tally}
+use Rattle.cases.specs.declared.Or.{Or}
 
 -- the part from a up to e; no bytes where there is no such part
 abbrev pub part_of : List ℕ → ℕ → ℕ → List ℕ
@@ -18,6 +19,10 @@ not_tab b = not (b == 9)
 -- what stands behind the first tab
 unfoldable pub answer_of : List ℕ → List ℕ
 answer_of s = drop (end_while not_tab s 0 + 1) s
+
+-- what an optional value is shown as, where `shown` tells how its type is: it, or else the text
+abbrev pub shown_or : {T : Type 0} → (T → Option (List ℕ)) → Or T → Option (List ℕ)
+shown_or shown x = elim x.0 [ Some v ↦ shown v | None ↦ Some x.1.now ]
 
 -- a case more, which the program answered rightly or not
 unfoldable pub counted : Tally → Bool → Tally

@@ -1,18 +1,20 @@
 // Lists of cases for test programs.
 //
 // A list is text. A line that starts with '#' is a comment. Any other line is a case: a question, a
-// tab, and the answer that is right. A question is the name of its group and its arguments, parted by
-// one space; byte strings are in hexadecimal, '-' for none. The cases of a group stand together.
+// tab, and the answer that is right. A question is the name of its group and its arguments, parted
+// by one space; byte strings are in hexadecimal, '-' for none. The cases of a group stand
+// together.
 //
-// A program says what it answers to a line (`Program`), and `run` holds its answers to the list; see
-// `text_vectors`.
+// A program says what it answers to a line (`Program`), and `run` holds its answers to the list;
+// see `text_vectors`.
 #![tactic(auto)]
 
-ghost use Rattle.std.specs.Prelude.{◌≡◌, ◌<◌, ◌==◌, cond, codes, length, position, IfOk};
+ghost use Rattle.std.specs.Prelude.{◌≡◌, ◌<◌, ◌==◌, cond, codes, length, position, take, IfOk};
 ghost use Rattle.std.specs.Io.{ReadsAtMost};
 ghost use Rattle.scan.specs.Search.{equal};
-ghost use Rattle.cases.specs.Cases.{part_of, float_of, answer_of, counted};
+ghost use Rattle.cases.specs.Cases.{part_of, shown_or, float_of, answer_of, counted};
 
+use output::Writer;
 use std::fs::File;
 use std::io::{Cursor, Read, Write};
 use std::rt::Files;
@@ -69,7 +71,8 @@ fn is_case(line: &[u8]) -> bool {
     !matches!(line, [] | [b'#', ..])
 }
 
-// The n-th field of a line, from 0 on, which is the group's name; fields are parted by a space or a tab.
+// The n-th field of a line, from 0 on, which is the group's name; fields are parted by a space or
+// a tab.
 pub fn field(line: &[u8], n: usize) -> &[u8] {
     line.split(|b| matches!(*b, b' ' | b'\t'))
         .nth(n)
@@ -78,10 +81,7 @@ pub fn field(line: &[u8], n: usize) -> &[u8] {
 
 // The n-th field as a decimal number, 0 where it is none.
 pub fn number(line: &[u8], n: usize) -> usize {
-    let Some(v) = decimal::read_u64(field(line, n)) else {
-        return 0;
-    };
-    v as usize
+    decimal::read_u64(field(line, n)).unwrap_or(0) as usize
 }
 
 fn tab_at(line: &[u8]) -> Option<usize>
@@ -91,16 +91,10 @@ fn tab_at(line: &[u8]) -> Option<usize>
 }
 
 // The float whose bits these are, or none for those of a NaN.
-#[tactic(auto, using(crate::proofs::CaseLaws::of_number))]
 pub fn float(bits: u64) -> Option<f64>
     ensures { result ≡ float_of bits }
 {
-    let nan = bits % 0x8000_0000_0000_0000 > 0x7ff0_0000_0000_0000;
-    if nan {
-        None
-    } else {
-        Some(f64::from_bits(bits))
-    }
+    seconds::float_of_bits(bits)
 }
 
 // Whether the case's answer is `got`.
@@ -110,7 +104,7 @@ pub fn agrees(line: &[u8], got: &[u8]) -> bool
 {
     match tab_at(line) {
         Some(tab) => scan::same(&line[tab + 1..], got),
-        None => got.len() == 0,
+        None => got.is_empty(),
     }
 }
 
@@ -124,14 +118,31 @@ fn value(b: u8) -> u8
     }
 }
 
-// The bytes that the hexadecimal s says, put into out: how many.
-pub fn hex(s: &[u8], out: &mut [u8]) -> usize {
+// The bytes that the hexadecimal s says, as many as out has room for.
+pub fn hex<'a>(s: &[u8], out: &'a mut [u8]) -> &'a [u8] {
     let (pairs, _) = s.as_chunks::<2>();
-    let n = pairs.len().min(out.len());
     for (place, [high, low]) in out.iter_mut().zip(pairs) {
         *place = value(*high) * 16 + value(*low);
     }
-    n
+    first(out, pairs.len())
+}
+
+// The text that a writer has written.
+pub fn text_of<'a>(w: Writer<'a>) -> &'a [u8]
+    ensures { result.now ≡ part_of w.entry.out.now 0 w.entry.at }
+{
+    let Writer { out, at } = w;
+    part(out, 0, at)
+}
+
+// The text that a call wrote at the beginning of the bytes, or another where it refused.
+pub fn written_or<'a, E: Drop>(r: Result<usize, E>, bytes: &'a [u8], other: &'a [u8]) -> &'a [u8]
+    ensures { result.now ≡ elim r [ Ok n ↦ part_of bytes.now 0 n | Err _ ↦ other.now ] }
+{
+    match r {
+        Ok(n) => part(bytes, 0, n),
+        Err(_) => other,
+    }
 }
 
 // Bytes in hexadecimal, '-' for none.
@@ -150,16 +161,45 @@ impl fmt::Display for InHex<'_> {
     }
 }
 
-// What all places of a lent list hold, each in decimal behind the mark.
-pub fn put_places(mark: &str, places: &[u32], out: &mut Answer) -> io::Result<()> {
-    for place in places {
-        write!(out, "{mark}{place}")?;
+// The values of a list, each after the mark.
+#[derive(Clone, Copy)]
+pub struct Marked<'a, T>(pub &'a str, pub &'a [T]);
+
+impl<T: fmt::Display> fmt::Display for Marked<'_, T> {
+    fn fmt<W: fmt::Write>(&self, f: &mut fmt::Formatter<W>) -> fmt::Result {
+        for value in self.1 {
+            write!(f, "{}{value}", self.0)?;
+        }
+        Ok(())
     }
-    Ok(())
 }
 
-// The first n places of a list, all where there are fewer.
-pub fn first_places(s: &mut [u32], n: usize) -> &mut [u32] {
+// A value, or the text where there is none.
+#[derive(Clone, Copy)]
+pub struct Or<'a, T>(pub Option<T>, pub &'a str);
+
+impl<T: fmt::Display> fmt::Display for Or<'_, T> {
+    ghost output = { shown_or T.output };
+
+    fn fmt<W: fmt::Write>(&self, f: &mut fmt::Formatter<W>) -> fmt::Result {
+        match &self.0 {
+            Some(value) => write!(f, "{value}"),
+            None => write!(f, "{}", self.1),
+        }
+    }
+}
+
+// The first n of a list, all where there are fewer.
+pub fn first<T>(s: &[T], n: usize) -> &[T]
+    ensures { result.now ≡ take n s.now }
+{
+    s.get(..n).unwrap_or(s)
+}
+
+// The same of a list that is to be changed.
+pub fn first_mut<T>(s: &mut [T], n: usize) -> &mut [T]
+    ensures { result.now ≡ take n s.old }
+{
     let n = n.min(s.len());
     &mut s[..n]
 }
@@ -172,16 +212,26 @@ pub fn yes_no(yes: bool) -> &'static str
 }
 
 // What is counted of the group at hand.
-#[derive(Clone, Copy)]
+#[derive(Clone, Copy, Default)]
 pub struct Tally {
     pub cases: u64,
     pub mismatches: u64,
 }
 
-pub fn start() -> Tally {
-    Tally {
-        cases: 0,
-        mismatches: 0,
+impl Tally {
+    // A case more, which the program answered rightly or not.
+    #[tactic(auto, unfolding(crate::specs::Cases::counted))]
+    pub fn counted(self, right: bool) -> Tally
+        ensures { result ≡ counted self right }
+    {
+        let cases = self.cases.wrapping_add(1);
+        if right {
+            return Tally { cases, ..self };
+        }
+        Tally {
+            cases,
+            mismatches: self.mismatches.wrapping_add(1),
+        }
     }
 }
 
@@ -206,16 +256,11 @@ fn print_mismatch(rt: &impl Print, line: &[u8], got: &[u8]) -> io::Result<()> {
 fn judged(rt: &impl Print, t: Tally, case: &[u8], got: &[u8]) -> io::Result<Tally>
     ensures { IfOk result (λ r. r ≡ counted t (equal (answer_of case.now) got.now)) }
 {
-    let cases = t.cases.wrapping_add(1);
-    if agrees(case, got) {
-        return Ok(Tally { cases, ..t });
+    let right = agrees(case, got);
+    if !right {
+        print_mismatch(rt, case, got)?;
     }
-    print_mismatch(rt, case, got)?;
-    Ok(Tally {
-        cases,
-        mismatches: t.mismatches.wrapping_add(1),
-        ..t
-    })
+    Ok(t.counted(right))
 }
 
 // Where a program writes its answer.
@@ -246,7 +291,7 @@ pub fn run<R: Files + Print, P: Program>(rt: &R, file: &str, program: &P) -> io:
     let n = read_file(rt, file, &mut list)?;
     let mut out = [0; ANSWER];
     let mut name: &[u8] = &[];
-    let mut t = start();
+    let mut t = Tally::default();
     for case in list[..n].split(|b| *b == b'\n') {
         if !is_case(case) {
             continue;
@@ -254,7 +299,7 @@ pub fn run<R: Files + Print, P: Program>(rt: &R, file: &str, program: &P) -> io:
         if field(case, 0) != name {
             report(rt, t, name)?;
             name = field(case, 0);
-            t = start();
+            t = Tally::default();
         }
         t = answered(rt, program, t, case, &mut out)?;
     }

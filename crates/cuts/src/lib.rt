@@ -1,12 +1,15 @@
-// Listings cut into parts, and numbers drawn by a fixed rule, for test programs that replay lists of calls.
+// Listings cut into parts, and numbers drawn by a fixed rule, for test programs that replay lists
+// of calls.
 #![tactic(auto)]
 
+use cases::Marked;
 use std::io;
 
 // The most parts, with one place more.
 const PLACES: usize = 10;
 
-// The i-th part lies between the places i and i + 1; the header ends at `header`, in the first part.
+// The i-th part lies between the places i and i + 1; the header ends at `header`, in the first
+// part.
 #[derive(Clone, Copy)]
 pub struct Cut {
     pub places: [usize; PLACES],
@@ -56,7 +59,8 @@ fn further(text: &[u8], at: usize, x: u64, line_end: bool) -> usize {
     }
 }
 
-// Two to eight parts, cut behind the header at any places, or at line ends only. Parts may be empty.
+// Two to eight parts, cut behind the header at any places, or at line ends only. Parts may be
+// empty.
 pub fn by_chance(text: &[u8], header: usize, seed: u64, line_ends: bool) -> Cut {
     let parts = 2 + (drawn(seed) % 7) as usize;
     let mut places = [text.len(); PLACES];
@@ -77,8 +81,6 @@ pub fn by_chance(text: &[u8], header: usize, seed: u64, line_ends: bool) -> Cut 
 
 // Where the parts but the first begin.
 pub fn print(rt: &impl Print, cut: Cut) -> io::Result<()> {
-    for place in cut.places.iter().take(cut.parts).skip(1) {
-        print!(rt; " {place}")?;
-    }
-    println!(rt; "")
+    let places = cut.places.get(1..cut.parts).unwrap_or(&[]);
+    println!(rt; "{}", Marked(" ", places))
 }

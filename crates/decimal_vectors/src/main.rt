@@ -1,59 +1,47 @@
 // Runs the cases of `decimal` (data/cases.txt) and prints a line for each group.
 #![tactic(auto)]
 
-use cases::{Answer, InHex, Program};
-use output::{PutError, Writer};
-use std::io;
+use cases::{Answer, InHex, Or, Program};
+use output::Writer;
 use std::io::Write;
+use std::{fmt, io};
 
 // Room for a number as it is printed.
 const TEXT: usize = 32;
 
-fn writer(text: &mut [u8]) -> Writer {
-    Writer { out: text, at: 0 }
+// What a call writes.
+// Stays in both programs that print so: a public function asks nothing of its callers, and one that
+// takes a closure asks that it may be called.
+fn put_text<F: FnOnce(&mut Writer)>(write: F, out: &mut Answer) -> io::Result<()>
+    requires { F.IsAlwaysCallable write }
+{
+    let mut text = [0; TEXT];
+    let mut w = Writer {
+        out: &mut text,
+        at: 0,
+    };
+    write(&mut w);
+    out.write_all(cases::text_of(w))
 }
 
 // The number as `decimal_display` prints it.
 fn put_u32(r: Option<u32>, out: &mut Answer) -> io::Result<()> {
-    let Some(n) = r else {
-        return write!(out, "none");
-    };
-    let mut text = [0; TEXT];
-    let mut w = writer(&mut text);
-    decimal_display::write_u32(n, &mut w);
-    let k = w.at;
-    out.write_all(cases::part(w.out, 0, k))
+    match r {
+        Some(n) => put_text(|w| decimal_display::write_u32(n, w), out),
+        None => write!(out, "none"),
+    }
 }
 
 fn put_u64(r: Option<u64>, out: &mut Answer) -> io::Result<()> {
-    let Some(n) = r else {
-        return write!(out, "none");
-    };
-    let mut text = [0; TEXT];
-    let mut w = writer(&mut text);
-    decimal_display::write_u64(n, &mut w);
-    let k = w.at;
-    out.write_all(cases::part(w.out, 0, k))
-}
-
-fn put_difference(a: u64, b: u64, out: &mut Answer) -> io::Result<()> {
-    let mut text = [0; TEXT];
-    let mut w = writer(&mut text);
-    decimal_display::write_difference(a, b, &mut w);
-    let k = w.at;
-    out.write_all(cases::part(w.out, 0, k))
-}
-
-// The place that a writer answered, and the list after it.
-fn put_written(place: usize, list: &[u8], out: &mut Answer) -> io::Result<()> {
-    write!(out, "{place} {}", InHex(list))
-}
-
-fn put_answer(r: Result<usize, PutError>, list: &[u8], out: &mut Answer) -> io::Result<()> {
     match r {
-        Ok(n) => put_written(n, list, out),
-        Err(PutError::TooShort) => write!(out, "short {}", InHex(list)),
+        Some(n) => put_text(|w| decimal_display::write_u64(n, w), out),
+        None => write!(out, "none"),
     }
+}
+
+// The place that a call answered, and the list after it.
+fn put_written<T: fmt::Display + Drop>(place: T, list: &[u8], out: &mut Answer) -> io::Result<()> {
+    write!(out, "{place} {}", InHex(list))
 }
 
 // What is written into a list at a place: the bytes s, the number n, or its last byte.
@@ -61,7 +49,7 @@ fn put_list(name: &[u8], s: &[u8], n: u64, w: &mut Writer, out: &mut Answer) -> 
     match name {
         b"put" => {
             let r = decimal_display::put_u64(n, w.out);
-            return put_answer(r, w.out, out);
+            return put_written(Or(r.ok(), "short"), w.out, out);
         }
         b"write" => decimal_display::write_u64(n, w),
         b"write_bytes" => w.bytes(s),
@@ -76,8 +64,7 @@ struct DecimalCases;
 impl Program for DecimalCases {
     fn answer(&self, line: &[u8], out: &mut Answer) -> io::Result<()> {
         let mut bytes = [0; 4096];
-        let m = cases::hex(cases::field(line, 1), &mut bytes);
-        let s = cases::part(&bytes, 0, m);
+        let s = cases::hex(cases::field(line, 1), &mut bytes);
         let name = cases::field(line, 0);
         let a = cases::number(line, 1) as u64;
         let b = cases::number(line, 2);
@@ -88,12 +75,14 @@ impl Program for DecimalCases {
             b"print" => put_u64(Some(a), out),
             b"print32" => put_u32(Some((a % 0x1_0000_0000) as u32), out),
             b"len" => write!(out, "{}", decimal_display::decimal_len(a)),
-            b"difference" => put_difference(a, b as u64, out),
+            b"difference" => {
+                put_text(|w| decimal_display::write_difference(a, b as u64, w), out)
+            }
             b"difference_len" => write!(out, "{}", decimal_display::difference_len(a, b as u64)),
             _ => {
                 let mut room = [b'.'; 64];
                 let mut w = Writer {
-                    out: &mut room[..b.min(64)],
+                    out: cases::first_mut(&mut room, b),
                     at: cases::number(line, 3),
                 };
                 put_list(name, s, a, &mut w, out)

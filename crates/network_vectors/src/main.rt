@@ -1,56 +1,53 @@
-// Runs the cases of `network` and `network_display` (data/cases.txt) and prints a line for each group.
+// Runs the cases of `network` and `network_display` (data/cases.txt) and prints a line for each
+// group.
 #![tactic(auto)]
 
-use cases::{Answer, InHex, Program};
+use cases::{Answer, InHex, Or, Program};
 use network::{IpAddr, NetworkPrefix};
-use output::{PutError, Writer};
+use output::Writer;
 use std::io;
 use std::io::Write;
 
 // Room for an address or a prefix as it is printed.
 const TEXT: usize = 128;
 
-fn writer(text: &mut [u8]) -> Writer {
-    Writer { out: text, at: 0 }
+// What a call writes.
+// Stays in both programs that print so: a public function asks nothing of its callers, and one that
+// takes a closure asks that it may be called.
+fn put_text<F: FnOnce(&mut Writer)>(write: F, out: &mut Answer) -> io::Result<()>
+    requires { F.IsAlwaysCallable write }
+{
+    let mut text = [0; TEXT];
+    let mut w = Writer {
+        out: &mut text,
+        at: 0,
+    };
+    write(&mut w);
+    out.write_all(cases::text_of(w))
 }
 
 // The address that s says, printed.
 fn put_read_address(s: &[u8], out: &mut Answer) -> io::Result<()> {
-    let Some(a) = network::read_address(s) else {
-        return write!(out, "none");
-    };
-    let mut text = [0; TEXT];
-    let mut w = writer(&mut text);
-    network_display::write_address(a, &mut w);
-    let k = w.at;
-    out.write_all(cases::part(w.out, 0, k))
-}
-
-fn put_read_prefix(s: &[u8], out: &mut Answer) -> io::Result<()> {
-    let Some(p) = network::read_prefix(s) else {
-        return write!(out, "none");
-    };
-    let mut text = [0; TEXT];
-    let mut w = writer(&mut text);
-    network_display::write_prefix(p, &mut w);
-    let k = w.at;
-    out.write_all(cases::part(w.out, 0, k))
-}
-
-// What was answered, and the list after it.
-fn put_answer(r: Result<usize, PutError>, list: &[u8], out: &mut Answer) -> io::Result<()> {
-    match r {
-        Ok(n) => write!(out, "{n} {}", InHex(list)),
-        Err(PutError::TooShort) => write!(out, "short {}", InHex(list)),
+    match network::read_address(s) {
+        Some(a) => put_text(|w| network_display::write_address(a, w), out),
+        None => write!(out, "none"),
     }
 }
 
+fn put_read_prefix(s: &[u8], out: &mut Answer) -> io::Result<()> {
+    match network::read_prefix(s) {
+        Some(p) => put_text(|w| network_display::write_prefix(p, w), out),
+        None => write!(out, "none"),
+    }
+}
+
+// What was answered, and the list after it.
 fn put_address(s: &[u8], list: &mut [u8], out: &mut Answer) -> io::Result<()> {
     let Some(a) = network::read_address(s) else {
         return Ok(());
     };
     let r = network_display::put_address(a, list);
-    put_answer(r, list, out)
+    write!(out, "{} {}", Or(r.ok(), "short"), InHex(list))
 }
 
 fn put_prefix(s: &[u8], list: &mut [u8], out: &mut Answer) -> io::Result<()> {
@@ -58,7 +55,7 @@ fn put_prefix(s: &[u8], list: &mut [u8], out: &mut Answer) -> io::Result<()> {
         return Ok(());
     };
     let r = network_display::put_prefix(p, list);
-    put_answer(r, list, out)
+    write!(out, "{} {}", Or(r.ok(), "short"), InHex(list))
 }
 
 // Whether the address of the prefix s can have the length n.
@@ -87,11 +84,10 @@ struct NetworkCases;
 impl Program for NetworkCases {
     fn answer(&self, line: &[u8], out: &mut Answer) -> io::Result<()> {
         let mut bytes = [0; 4096];
-        let m = cases::hex(cases::field(line, 1), &mut bytes);
-        let s = cases::part(&bytes, 0, m);
+        let s = cases::hex(cases::field(line, 1), &mut bytes);
         let n = cases::number(line, 2);
         let mut room = [b'.'; 64];
-        let list = &mut room[..n.min(64)];
+        let list = cases::first_mut(&mut room, n);
         match cases::field(line, 0) {
             b"starred" | b"rfc4291" | b"rfc5952" | b"addr" => put_read_address(s, out),
             b"starred_prefix" | b"rfc4291_prefix" | b"prefix" => put_read_prefix(s, out),

@@ -1,5 +1,9 @@
-// The plain reader (01, Reader) as a program, for tests. What a line says it takes from `text_dump_line`.
+// The plain reader (01, Reader) as a program, for tests. What a line says it takes from
+// `text_dump_line`.
 #![tactic(auto)]
+
+ghost use Rattle.std.specs.Prelude.{◌≡◌};
+ghost use Rattle.plain_calls.specs.declared.Refusal.TheVariants.{TooFewPlaces};
 
 use columns::Columns;
 use elem::Element;
@@ -39,6 +43,16 @@ pub enum Refusal {
     TooFewPlaces,
 }
 
+impl From<AsnsError> for Refusal {
+    ghost from_gives = { λ _ r. r ≡ TooFewPlaces };
+
+    fn from(e: AsnsError) -> Refusal {
+        match e {
+            AsnsError::TooFewPlaces => Refusal::TooFewPlaces,
+        }
+    }
+}
+
 // What a prefix-bearing line sets.
 fn set_by(text: PrefixText, old: Prefix) -> Prefix {
     match text {
@@ -48,32 +62,23 @@ fn set_by(text: PrefixText, old: Prefix) -> Prefix {
     }
 }
 
-fn last(numbers: &[u32]) -> Option<Asn> {
-    numbers.last().map(|n| Asn(*n))
-}
-
-// A route under a valid prefix. Its AS numbers are put into the places, if k places hold them; no line
+// A route under a valid prefix. Its AS numbers are put into the places, if these hold them; no line
 // has more than 16 here.
 fn route(
     given: Given,
     prefix: NetworkPrefix,
     entry: RouteEntry,
     line: &[u8],
-    k: usize,
     places: &mut [u32],
 ) -> Result<Element, Refusal> {
-    let mut numbers = [0; 16];
+    let mut room = [0; 16];
     let path = text_dump_line::path_of(line, entry);
-    let Ok(count) = path_text::put_asns(path, &mut numbers) else {
-        return Err(Refusal::TooFewPlaces);
-    };
-    if k < count {
-        return Err(Refusal::TooFewPlaces);
-    }
-    let numbers = &numbers[..count.min(16)];
-    for (place, number) in places.iter_mut().zip(numbers) {
-        *place = *number;
-    }
+    let count = path_text::put_asns(path, &mut room)?;
+    let numbers = cases::first(&room, count);
+    let lent = places
+        .get_mut(..numbers.len())
+        .ok_or(Refusal::TooFewPlaces)?;
+    lent.copy_from_slice(numbers);
     Ok(Element {
         announce: true,
         timestamp: given.timestamp,
@@ -82,20 +87,18 @@ fn route(
         prefix,
         next_hop: entry.next_hop,
         count,
-        origin_asn: last(numbers),
+        origin_asn: numbers.last().copied().map(Asn),
         origin: entry.origin,
         local_pref: entry.local_pref,
         metric: entry.metric,
     })
 }
 
-// The plain reader's next, with k AS places: an element, or none at the part's end. After a refusal all
-// is as before.
+// The plain reader's next: an element, or none at the part's end. After a refusal all is as before.
 pub fn next(
     given: Given,
     plain: &mut Plain,
     part: &[u8],
-    k: usize,
     places: &mut [u32],
 ) -> Result<Option<Element>, Refusal> {
     let Plain {
@@ -112,7 +115,7 @@ pub fn next(
             Line::Route(entry, text) => {
                 prefix = set_by(text, prefix);
                 if let Prefix::Valid(p) = prefix {
-                    let element = route(given, p, entry, line, k, places)?;
+                    let element = route(given, p, entry, line, places)?;
                     *plain = Plain { taken, prefix };
                     return Ok(Some(element));
                 }

@@ -1,7 +1,8 @@
 // Runs the cases of `psv` (data/cases.txt) and prints a line for each group.
 //
-// A question is a call's name, the element (type, bits of the timestamp, peer and its AS, prefix and its length, next hop, AS numbers
-// and their count, origin AS, origin, local preference, metric; addresses and AS numbers as bytes), and how many bytes are lent.
+// A question is a call's name, the element (type, bits of the timestamp, peer and its AS, prefix
+// and its length, next hop, AS numbers and their count, origin AS, origin, local preference,
+// metric; addresses and AS numbers as bytes), and how many bytes are lent.
 #![tactic(auto)]
 
 use cases::{Answer, Program};
@@ -22,12 +23,13 @@ fn bytes_at<const N: usize>(hex: &[u8], at: usize) -> [u8; N] {
 // Of 4 or of 16 bytes.
 fn address(hex: &[u8]) -> IpAddr {
     if hex.len() == 8 {
-        return IpAddr::V4(u32::from_be_bytes(bytes_at(hex, 0)));
+        IpAddr::V4(u32::from_be_bytes(bytes_at(hex, 0)))
+    } else {
+        IpAddr::V6(
+            u64::from_be_bytes(bytes_at(hex, 0)),
+            u64::from_be_bytes(bytes_at(hex, 16)),
+        )
     }
-    IpAddr::V6(
-        u64::from_be_bytes(bytes_at(hex, 0)),
-        u64::from_be_bytes(bytes_at(hex, 16)),
-    )
 }
 
 // No NaN can be made of bits; those of one stand for a fraction.
@@ -52,10 +54,6 @@ fn origin(name: &[u8]) -> Option<Origin> {
     }
 }
 
-fn origin_asn(number: Option<u32>) -> Option<Asn> {
-    number.map(Asn)
-}
-
 fn prefix(line: &[u8]) -> NetworkPrefix {
     NetworkPrefix {
         addr: address(cases::field(line, 6)),
@@ -72,7 +70,7 @@ fn element(line: &[u8]) -> Element {
         prefix: prefix(line),
         next_hop: address(cases::field(line, 8)),
         count: cases::number(line, 10),
-        origin_asn: origin_asn(decimal::read_u32(cases::field(line, 11))),
+        origin_asn: decimal::read_u32(cases::field(line, 11)).map(Asn),
         origin: origin(cases::field(line, 12)),
         local_pref: decimal::read_u32(cases::field(line, 13)),
         metric: decimal::read_u32(cases::field(line, 14)),
@@ -104,19 +102,18 @@ impl Program for PsvCases {
         let mut room = [b'.'; 16384];
         let call = cases::field(line, 1);
         if matches!(call, b"header") {
-            let bytes = path_cases::first_bytes(&mut room, cases::number(line, 2));
+            let bytes = cases::first_mut(&mut room, cases::number(line, 2));
             let r = psv::get_psv_header(bytes);
             return put_header(r, bytes, out);
         }
-        let mut s = [0; 4096];
+        let mut asn_bytes = [0; 4096];
         let mut numbers = [0; 1024];
-        let n = cases::hex(cases::field(line, 9), &mut s);
-        let (words, _) = s.as_chunks::<4>();
+        let (words, _) = cases::hex(cases::field(line, 9), &mut asn_bytes).as_chunks::<4>();
         for (place, word) in numbers.iter_mut().zip(words) {
             *place = u32::from_be_bytes(*word);
         }
-        let asns = path_cases::first_numbers(&numbers, n / 4);
-        let bytes = path_cases::first_bytes(&mut room, cases::number(line, 15));
+        let asns = cases::first(&numbers, words.len());
+        let bytes = cases::first_mut(&mut room, cases::number(line, 15));
         let e = element(line);
         let r = match call {
             b"display" => psv::display_element(e, asns, bytes),

@@ -1,13 +1,13 @@
-// Replays lists of calls on listings that are cut into parts, on the reader and on the plain reader side by side: after each call the
-// answer, every field of the state and every place of the AS list are compared. Where the listing is cut at line feeds, the elements
-// are compared with those of the joined body too. Prints a line for each group.
+// Replays lists of calls on listings that are cut into parts, on the reader and on the plain reader
+// side by side: after each call the answer, every field of the state and every place of the AS list
+// are compared. Where the listing is cut at line feeds, the elements are compared with those of the
+// joined body too. Prints a line for each group.
 #![tactic(auto)]
 
 use cases::Tally;
 use columns::Columns;
 use cuts::Cut;
-use network::{Asn, IpAddr};
-use plain_calls::{Given, Prefix};
+use plain_calls::Prefix;
 use std::io;
 use text_dump::{NextError, OpenError, State};
 
@@ -19,21 +19,14 @@ const CALLS: usize = 200;
 // How often a listing is cut by chance.
 const SEEDS: u64 = 100;
 
-// What the header of the listings says (01, One listing), and a timestamp.
-fn given() -> Given {
-    Given {
-        columns: Columns {
-            next_hop: 20,
-            metric: 40,
-            local_pref: 47,
-            weight: 54,
-            path: 61,
-        },
-        peer_ip: IpAddr::V4(3221226238),
-        peer_asn: Asn(64500),
-        timestamp: TIMESTAMP,
-    }
-}
+// The columns of the listings (01, One listing).
+const COLUMNS: Columns = Columns {
+    next_hop: 20,
+    metric: 40,
+    local_pref: 47,
+    weight: 54,
+    path: 61,
+};
 
 // A call more; where it was wrong, the cut is printed.
 fn counted(rt: &impl Print, t: Tally, right: bool, part: usize, cut: Cut) -> io::Result<Tally> {
@@ -46,10 +39,10 @@ fn counted(rt: &impl Print, t: Tally, right: bool, part: usize, cut: Cut) -> io:
 
 // The AS places of the next that comes, or none for a turn. Without a draw each part is read to its
 // end.
-fn call(stopped: bool, x: u64) -> Option<usize> {
-    if x == 0 {
+fn call(stopped: bool, draw: Option<u64>) -> Option<usize> {
+    let Some(x) = draw else {
         return if stopped { None } else { Some(replay::PLACES) };
-    }
+    };
     if stopped && x % 4 == 0 {
         return None;
     }
@@ -64,18 +57,19 @@ fn call(stopped: bool, x: u64) -> Option<usize> {
 }
 
 // Opens the first part, and reads each part to its end, or makes the calls that are drawn from the
-// seed.
-fn play(rt: &impl Print, t: Tally, text: &[u8], cut: Cut, seed: u64) -> io::Result<Tally> {
+// seed, where there is one.
+fn play(rt: &impl Print, t: Tally, text: &[u8], cut: Cut, seed: Option<u64>) -> io::Result<Tally> {
     let Ok(state) = State::open(cuts::part(text, cut, 0), TIMESTAMP) else {
         return counted(rt, t, false, 0, cut);
     };
-    let mut both = replay::begin(rt, state, given(), cut.header, Prefix::Nothing)?;
+    let given = replay::given(COLUMNS, TIMESTAMP);
+    let mut both = replay::begin(rt, state, given, cut.header, Prefix::Nothing)?;
     let mut t = counted(rt, t, both.right, 0, cut)?;
     let mut part = 0usize;
-    let mut x = seed;
+    let mut draw = seed;
     for _ in 0..CALLS {
-        x = cuts::drawn(x);
-        if let Some(k) = call(both.stopped, x) {
+        draw = draw.map(cuts::drawn);
+        if let Some(k) = call(both.stopped, draw) {
             let here = cuts::part(text, cut, part);
             both = replay::next(rt, both, here, cuts::body_at(cut, part), k)?;
         } else {
@@ -133,7 +127,7 @@ fn play_joined(rt: &impl Print, t: Tally, text: &[u8], cut: Cut) -> io::Result<T
 
 // Cut in two at every byte, the header's too.
 fn every_byte(rt: &impl Print, text: &[u8], header: usize) -> io::Result<Tally> {
-    let mut t = cases::start();
+    let mut t = Tally::default();
     // The column line needs no line feed.
     let feed = header.saturating_sub(1);
     for at in 0..=text.len() {
@@ -141,55 +135,62 @@ fn every_byte(rt: &impl Print, text: &[u8], header: usize) -> io::Result<Tally> 
         t = if at < feed {
             open_cut_header(rt, t, text, cut)?
         } else {
-            play(rt, t, text, cut, 0)?
+            play(rt, t, text, cut, None)?
         };
     }
     Ok(t)
 }
 
-// Against the joined body, or against the plain reader.
-fn play_either(
-    rt: &impl Print,
-    t: Tally,
+// Cut in two at every line feed after the header, and replayed.
+fn every_line<F: Fn(Tally, Cut) -> io::Result<Tally>>(
     text: &[u8],
-    cut: Cut,
-    joined: bool,
-) -> io::Result<Tally> {
-    if joined {
-        return play_joined(rt, t, text, cut);
-    }
-    play(rt, t, text, cut, 0)
-}
-
-// Cut in two at every line feed behind the header.
-fn every_line(rt: &impl Print, text: &[u8], header: usize, joined: bool) -> io::Result<Tally> {
-    let mut t = cases::start();
+    header: usize,
+    replay: F,
+) -> io::Result<Tally>
+    requires { F.IsAlwaysCallable replay }
+{
+    let mut t = Tally::default();
     for at in header..=text.len() {
         if at == header || at == text.len() || text[at - 1] == b'\n' {
-            t = play_either(rt, t, text, cuts::in_two(text, header, at), joined)?;
+            t = replay(t, cuts::in_two(text, header, at))?;
         }
     }
     Ok(t)
 }
 
-// Cut in two to eight parts by chance, and read to the end.
-fn some_parts(rt: &impl Print, text: &[u8], header: usize, joined: bool) -> io::Result<Tally> {
-    let mut t = cases::start();
+// With each seed.
+fn every_seed<F: Fn(Tally, u64) -> io::Result<Tally>>(replay: F) -> io::Result<Tally>
+    requires { F.IsAlwaysCallable replay }
+{
+    let mut t = Tally::default();
     for seed in 1..=SEEDS {
-        let cut = cuts::by_chance(text, header, seed, joined);
-        t = play_either(rt, t, text, cut, joined)?;
+        t = replay(t, seed)?;
     }
     Ok(t)
 }
 
+// Cut in two to eight parts by chance, and read to the end.
+fn some_parts(rt: &impl Print, text: &[u8], header: usize) -> io::Result<Tally> {
+    every_seed(|t, seed| {
+        let cut = cuts::by_chance(text, header, seed, false);
+        play(rt, t, text, cut, None)
+    })
+}
+
+// The same at line feeds, and beside the joined body.
+fn some_parts_joined(rt: &impl Print, text: &[u8], header: usize) -> io::Result<Tally> {
+    every_seed(|t, seed| {
+        let cut = cuts::by_chance(text, header, seed, true);
+        play_joined(rt, t, text, cut)
+    })
+}
+
 // Cut in two to eight parts by chance, at line feeds every other time, with calls that are drawn.
 fn some_calls(rt: &impl Print, text: &[u8], header: usize) -> io::Result<Tally> {
-    let mut t = cases::start();
-    for seed in 1..=SEEDS {
+    every_seed(|t, seed| {
         let cut = cuts::by_chance(text, header, seed, seed % 2 == 0);
-        t = play(rt, t, text, cut, seed)?;
-    }
-    Ok(t)
+        play(rt, t, text, cut, Some(seed))
+    })
 }
 
 // The header of each listing is its first three lines.
@@ -201,19 +202,19 @@ fn listing(rt: &impl Print, text: &[u8]) -> io::Result<()> {
     let header = header_of(text);
     let bytes = every_byte(rt, text, header)?;
     cases::report(rt, bytes, b"listing_every_byte")?;
-    let joined = every_line(rt, text, header, true)?;
+    let joined = every_line(text, header, |t, cut| play_joined(rt, t, text, cut))?;
     cases::report(rt, joined, b"listing_joined")
 }
 
 fn table(rt: &impl Print, text: &[u8]) -> io::Result<()> {
     let header = header_of(text);
-    let lines = every_line(rt, text, header, false)?;
+    let lines = every_line(text, header, |t, cut| play(rt, t, text, cut, None))?;
     cases::report(rt, lines, b"table_every_line")?;
-    let joined = every_line(rt, text, header, true)?;
+    let joined = every_line(text, header, |t, cut| play_joined(rt, t, text, cut))?;
     cases::report(rt, joined, b"table_every_line_joined")?;
-    let parts = some_parts(rt, text, header, false)?;
+    let parts = some_parts(rt, text, header)?;
     cases::report(rt, parts, b"table_parts")?;
-    let parts_joined = some_parts(rt, text, header, true)?;
+    let parts_joined = some_parts_joined(rt, text, header)?;
     cases::report(rt, parts_joined, b"table_parts_joined")?;
     let calls = some_calls(rt, text, header)?;
     cases::report(rt, calls, b"table_calls")
@@ -221,9 +222,9 @@ fn table(rt: &impl Print, text: &[u8]) -> io::Result<()> {
 
 fn unreadable(rt: &impl Print, text: &[u8]) -> io::Result<()> {
     let header = header_of(text);
-    let lines = every_line(rt, text, header, false)?;
+    let lines = every_line(text, header, |t, cut| play(rt, t, text, cut, None))?;
     cases::report(rt, lines, b"unreadable_every_line")?;
-    let parts = some_parts(rt, text, header, false)?;
+    let parts = some_parts(rt, text, header)?;
     cases::report(rt, parts, b"unreadable_parts")?;
     let calls = some_calls(rt, text, header)?;
     cases::report(rt, calls, b"unreadable_calls")

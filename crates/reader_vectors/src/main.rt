@@ -1,10 +1,9 @@
-// Reads the listings of data/cases.txt, by opening and by next until it says End or refuses, and prints a line for each group.
+// Reads the listings of data/cases.txt, by opening and by next until it says End or refuses, and
+// prints a line for each group.
 #![tactic(auto)]
 
 use cases::{Answer, Program};
-use elem::Element;
 use output::Writer;
-use psv::ElementError;
 use std::io;
 use std::io::Write;
 use text_dump::{NextError, OpenError, State};
@@ -25,19 +24,22 @@ fn byte(digits: &[u8]) -> u8 {
     one[0]
 }
 
-// The listing that s spells, where `%` and two digits are a byte too: how many bytes.
-fn listing(s: &[u8], out: &mut [u8]) -> usize {
-    let mut w = Writer { out, at: 0 };
-    for (i, piece) in s.split(|b| *b == b'%').enumerate() {
-        let (digits, others) = piece.split_at(if i == 0 { 0 } else { piece.len().min(2) });
-        if i != 0 {
-            w.byte(byte(digits));
-        }
-        for b in others {
-            w.byte(plain(*b));
-        }
+fn put_plain(s: &[u8], w: &mut Writer) {
+    for b in s {
+        w.byte(plain(*b));
     }
-    w.at
+}
+
+// The listing that s spells, where `%` and two digits are a byte too.
+fn listing<'a>(s: &[u8], out: &'a mut [u8]) -> &'a [u8] {
+    let mut w = Writer { out, at: 0 };
+    let mut pieces = s.split(|b| *b == b'%');
+    put_plain(pieces.next().unwrap_or(&[]), &mut w);
+    for piece in pieces {
+        w.byte(byte(cases::first(piece, 2)));
+        put_plain(piece.get(2..).unwrap_or(&[]), &mut w);
+    }
+    cases::text_of(w)
 }
 
 // The float whose bits these are; any NaN for those of one.
@@ -45,19 +47,7 @@ fn timestamp(bits: u64) -> f64 {
     cases::float(bits).unwrap_or(f64::NAN)
 }
 
-// An element as its PSV line, and a tab.
-fn put_element(e: Element, asns: &[u32], out: &mut Answer) -> io::Result<()> {
-    let mut line = [0; 4096];
-    match psv::to_psv(e, asns, &mut line) {
-        Ok(n) => {
-            out.write_all(cases::part(&line, 0, n))?;
-            write!(out, "\t")
-        }
-        Err(ElementError::Spoilt) | Err(ElementError::TooShort) => write!(out, "no line"),
-    }
-}
-
-// All elements, and what next says instead of one more.
+// All elements as their PSV lines, each with a tab, and what next says instead of one more.
 fn read_on(state: State, text: &[u8], out: &mut Answer) -> io::Result<()> {
     let mut state = state;
     // No listing has more elements than bytes.
@@ -65,7 +55,10 @@ fn read_on(state: State, text: &[u8], out: &mut Answer) -> io::Result<()> {
         let mut asns = [0; 64];
         match state.next(text, &mut asns) {
             (s, Ok(Some(e))) => {
-                put_element(e, &asns, out)?;
+                let mut line = [0; 4096];
+                let written = psv::to_psv(e, &asns, &mut line);
+                out.write_all(cases::written_or(written, &line, b"no line"))?;
+                write!(out, "\t")?;
                 state = s;
             }
             (_, Ok(None)) => return write!(out, "end"),
@@ -82,8 +75,7 @@ struct ReaderCases;
 impl Program for ReaderCases {
     fn answer(&self, case: &[u8], out: &mut Answer) -> io::Result<()> {
         let mut bytes = [0; 4096];
-        let n = listing(cases::field(case, 2), &mut bytes);
-        let text = cases::part(&bytes, 0, n);
+        let text = listing(cases::field(case, 2), &mut bytes);
         match State::open(text, timestamp(cases::number(case, 1) as u64)) {
             Ok(state) => read_on(state, text, out),
             Err(OpenError::NoTimestamp) => write!(out, "4"),

@@ -1,12 +1,17 @@
-// The reader and the plain reader side by side, for tests: each call is made on both, and what they leave is compared.
+// The reader and the plain reader side by side, for tests: each call is made on both, and what they
+// leave is compared.
 #![tactic(auto)]
 
-use cases::Tally;
+ghost use Rattle.std.specs.Prelude.{◌≡◌};
+ghost use Rattle.network.specs.declared.IpAddr.TheVariants.{V4};
+
+use cases::{Marked, Tally};
+use columns::Columns;
 use elem::Element;
+use network::{Asn, IpAddr};
 use plain_calls::{Given, Plain, Prefix, Refusal};
-use psv::ElementError;
-use std::io;
 use std::io::{Cursor, Write};
+use std::{fmt, io, str};
 use text_dump::{NextError, Remembered, State};
 
 // What next answers, with the state that it leaves.
@@ -18,76 +23,104 @@ pub const PLACES: usize = 16;
 // The most bytes of a text.
 const TEXT: usize = 4096;
 
-type Text = Cursor<[u8; TEXT]>;
-
 // A float by its bits.
-fn put_float(x: f64, out: &mut Text) -> io::Result<()> {
-    if x.is_nan() {
-        write!(out, " nan")
-    } else {
-        write!(out, " {}", x.to_bits())
+#[derive(Clone, Copy)]
+struct Bits(f64);
+
+impl fmt::Display for Bits {
+    fn fmt<W: fmt::Write>(&self, f: &mut fmt::Formatter<W>) -> fmt::Result {
+        if self.0.is_nan() {
+            write!(f, "nan")
+        } else {
+            write!(f, "{}", self.0.to_bits())
+        }
     }
 }
 
 // Every field of a state.
-// Stays a text: a timestamp is compared by its bits, so that NaN is NaN and -0.0 is not 0.0; by `==`
-// it would be the other way round.
-fn put_state(s: State, out: &mut Text) -> io::Result<()> {
-    write!(
-        out,
-        " {} {:?} {:?} {:?} {:?}",
-        s.position, s.remembered, s.peer_ip, s.peer_asn, s.columns
-    )?;
-    put_float(s.timestamp, out)
+// Stays a text: a timestamp is compared by its bits, so that NaN is NaN and -0.0 is not 0.0; by
+// `==` it would be the other way round.
+#[derive(Clone, Copy)]
+struct Whole(State);
+
+impl fmt::Display for Whole {
+    fn fmt<W: fmt::Write>(&self, f: &mut fmt::Formatter<W>) -> fmt::Result {
+        let State {
+            columns,
+            peer_ip,
+            peer_asn,
+            timestamp,
+            remembered,
+            position,
+        } = self.0;
+        write!(
+            f,
+            "{position} {remembered:?} {peer_ip:?} {peer_asn:?} {columns:?} "
+        )?;
+        write!(f, "{}", Bits(timestamp))
+    }
 }
 
 // An element by its line.
-fn put_element(e: Element, asns: &[u32], out: &mut Text) -> io::Result<()> {
-    let mut line = [0; TEXT];
-    match psv::to_psv(e, asns, &mut line) {
-        Ok(n) => out.write_all(cases::part(&line, 0, n)),
-        Err(ElementError::Spoilt) | Err(ElementError::TooShort) => write!(out, "no line"),
+#[derive(Clone, Copy)]
+struct Line<'a>(Element, &'a [u32]);
+
+impl fmt::Display for Line<'_> {
+    fn fmt<W: fmt::Write>(&self, f: &mut fmt::Formatter<W>) -> fmt::Result {
+        let mut line = [0; TEXT];
+        let written = psv::to_psv(self.0, self.1, &mut line);
+        match str::from_utf8(cases::written_or(written, &line, b"no line")) {
+            Ok(text) => f.write_str(text),
+            Err(_) => write!(f, "no text"),
+        }
+    }
+}
+
+// What next answered: the element, or what else it is.
+#[derive(Clone, Copy)]
+struct Said<'a>(Next, &'a [u32]);
+
+impl fmt::Display for Said<'_> {
+    fn fmt<W: fmt::Write>(&self, f: &mut fmt::Formatter<W>) -> fmt::Result {
+        match self.0 {
+            (_, Ok(Some(e))) => write!(f, "{}", Line(e, self.1)),
+            (_, Ok(None)) => write!(f, "end"),
+            (_, Err(NextError::Spoilt)) => write!(f, "5"),
+            (_, Err(NextError::Unreadable)) => write!(f, "6"),
+            (_, Err(NextError::TooFewPlaces)) => write!(f, "7"),
+        }
+    }
+}
+
+// What next answered and left: every field of the state and every place of the list.
+#[derive(Clone, Copy)]
+struct Left<'a>(Next, &'a [u32]);
+
+impl fmt::Display for Left<'_> {
+    fn fmt<W: fmt::Write>(&self, f: &mut fmt::Formatter<W>) -> fmt::Result {
+        let said = Said(self.0, self.1);
+        let state = Whole(state_in(self.0));
+        write!(f, "{said} {state}{}", Marked(" ", self.1))
     }
 }
 
 pub fn state_in(n: Next) -> State {
-    let (state, _) = n;
-    state
+    n.0
 }
 
-// The element of an answer, or what else it is.
-fn put_answer(n: Next, asns: &[u32], out: &mut Text) -> io::Result<()> {
-    match n {
-        (_, Ok(Some(e))) => put_element(e, asns, out),
-        (_, Ok(None)) => write!(out, "end"),
-        (_, Err(NextError::Spoilt)) => write!(out, "5"),
-        (_, Err(NextError::Unreadable)) => write!(out, "6"),
-        (_, Err(NextError::TooFewPlaces)) => write!(out, "7"),
-    }
+fn text_of<'a, D: fmt::Display>(shown: &D, room: &'a mut [u8]) -> io::Result<&'a [u8]> {
+    let mut w = Cursor::new(&mut *room);
+    write!(w, "{shown}")?;
+    let n = w.position() as usize;
+    Ok(cases::first(room, n))
 }
 
-// What next answered, with every field of the state and every place of the list.
-fn put_next(n: Next, asns: &[u32], out: &mut Text) -> io::Result<()> {
-    put_answer(n, asns, out)?;
-    put_state(state_in(n), out)?;
-    for asn in asns {
-        write!(out, " {asn}")?;
-    }
-    Ok(())
-}
-
-fn text() -> Text {
-    Cursor::new([0; TEXT])
-}
-
-fn written(text: &Text) -> &[u8] {
-    cases::part(text.get_ref(), 0, text.position() as usize)
-}
-
-// Whether two texts are the same; where they are not, both are printed.
-fn same(rt: &impl Print, got: &Text, want: &Text) -> io::Result<bool> {
-    let got = written(got);
-    let want = written(want);
+// Whether two are shown by the same text; where they are not, both are printed.
+fn same<D: fmt::Display>(rt: &impl Print, got: &D, want: &D) -> io::Result<bool> {
+    let mut got_room = [0; TEXT];
+    let mut want_room = [0; TEXT];
+    let got = text_of(got, &mut got_room)?;
+    let want = text_of(want, &mut want_room)?;
     if got == want {
         return Ok(true);
     }
@@ -107,11 +140,7 @@ pub fn same_answer(
     want: Next,
     places: &[u32],
 ) -> io::Result<bool> {
-    let mut a = text();
-    let mut b = text();
-    put_answer(got, asns, &mut a)?;
-    put_answer(want, places, &mut b)?;
-    same(rt, &a, &b)
+    same(rt, &Said(got, asns), &Said(want, places))
 }
 
 // Whether next answered as it should, with every field and every place.
@@ -122,22 +151,28 @@ pub fn same_next(
     want: Next,
     places: &[u32],
 ) -> io::Result<bool> {
-    let mut a = text();
-    let mut b = text();
-    put_next(got, asns, &mut a)?;
-    put_next(want, places, &mut b)?;
-    same(rt, &a, &b)
+    same(rt, &Left(got, asns), &Left(want, places))
 }
 
 pub fn same_state(rt: &impl Print, got: State, want: State) -> io::Result<bool> {
-    let mut a = text();
-    let mut b = text();
-    put_state(got, &mut a)?;
-    put_state(want, &mut b)?;
-    same(rt, &a, &b)
+    same(rt, &Whole(got), &Whole(want))
 }
 
-// The state that the plain reader's asks for, where its part begins at `base` in the text that next is lent.
+// What a listing's header says in these programs, with these columns, and a timestamp.
+pub fn given(columns: Columns, timestamp: f64) -> Given
+    ensures passed_on { (result.columns ≡ columns) × (result.timestamp ≡ timestamp) }
+    ensures peer { (result.peer_ip ≡ V4 3221226238) × (result.peer_asn.0 ≡ 64500) }
+{
+    Given {
+        columns,
+        peer_ip: IpAddr::V4(3221226238),
+        peer_asn: Asn(64500),
+        timestamp,
+    }
+}
+
+// The state that the plain reader's asks for, where its part begins at `base` in the text that next
+// is lent.
 fn state_of(given: Given, plain: Plain, base: usize) -> State {
     State {
         columns: given.columns,
@@ -153,12 +188,11 @@ fn state_of(given: Given, plain: Plain, base: usize) -> State {
     }
 }
 
-// The answer that the plain reader's asks for.
-fn next_of(answer: Result<Option<Element>, Refusal>, state: State) -> Next {
-    match answer {
-        Ok(element) => (state, Ok(element)),
-        Err(Refusal::Unreadable) => (state, Err(NextError::Unreadable)),
-        Err(Refusal::TooFewPlaces) => (state, Err(NextError::TooFewPlaces)),
+// The refusal that the plain reader's asks for.
+fn refusal_of(refusal: Refusal) -> NextError {
+    match refusal {
+        Refusal::Unreadable => NextError::Unreadable,
+        Refusal::TooFewPlaces => NextError::TooFewPlaces,
     }
 }
 
@@ -169,25 +203,19 @@ pub fn places() -> [u32; PLACES] {
 
 // Next with the first k places of the list.
 pub fn next_with(state: State, part: &[u8], k: usize, asns: &mut [u32]) -> Next {
-    let k = k.min(asns.len());
-    state.next(part, &mut asns[..k])
+    state.next(part, cases::first_mut(asns, k))
 }
 
 // A case more in a group, which was right or not.
 pub fn count(rt: &impl Print, t: Tally, right: bool) -> io::Result<Tally> {
-    let cases = t.cases.wrapping_add(1);
-    if right {
-        return Ok(Tally { cases, ..t });
+    let t = t.counted(right);
+    if !right {
+        println!(rt; "mismatch: case {} of the group", t.cases)?;
     }
-    println!(rt; "mismatch: case {cases} of the group")?;
-    Ok(Tally {
-        cases,
-        mismatches: t.mismatches.wrapping_add(1),
-        ..t
-    })
+    Ok(t)
 }
 
-// Both readers behind a call, and the AS places of each.
+// Both readers after a call, and the AS places of each.
 #[derive(Clone, Copy)]
 pub struct Both {
     pub given: Given,
@@ -201,7 +229,8 @@ pub struct Both {
     pub right: bool,
 }
 
-// Opening, which gave this state, with a body that begins at `base`; or a state put together by hand.
+// Opening, which gave this state, with a body that begins at `base`; or a state put together by
+// hand.
 pub fn begin(
     rt: &impl Print,
     state: State,
@@ -223,15 +252,27 @@ pub fn begin(
 
 // Next with k places, on a part whose body begins at `base`.
 pub fn next(rt: &impl Print, b: Both, part: &[u8], base: usize, k: usize) -> io::Result<Both> {
-    let mut b = b;
+    let Both {
+        given,
+        state,
+        mut plain,
+        mut asns,
+        mut places,
+        ..
+    } = b;
     let body = cases::part(part, base, part.len());
-    let answer = plain_calls::next(b.given, &mut b.plain, body, k, &mut b.places);
-    let got = next_with(b.state, part, k, &mut b.asns);
-    let want = next_of(answer, state_of(b.given, b.plain, base));
-    b.state = state_in(got);
-    b.stopped = !matches!(got, (_, Ok(Some(_))));
-    b.right = same_next(rt, got, &b.asns, want, &b.places)?;
-    Ok(b)
+    let answer = plain_calls::next(given, &mut plain, body, cases::first_mut(&mut places, k));
+    let want = (state_of(given, plain, base), answer.map_err(refusal_of));
+    let got = next_with(state, part, k, &mut asns);
+    Ok(Both {
+        given,
+        state: state_in(got),
+        plain,
+        asns,
+        places,
+        stopped: !matches!(got, (_, Ok(Some(_)))),
+        right: same_next(rt, got, &asns, want, &places)?,
+    })
 }
 
 // Turn to the next part.

@@ -1,14 +1,14 @@
-// Runs the cases of `text_dump_header` and `text_dump_line` (data/cases.txt) and prints a line for each group. A group's name
-// begins with the call: detect, header, put_asns, route or line.
+// Runs the cases of `text_dump_header` and `text_dump_line` (data/cases.txt) and prints a line for
+// each group. A group's name begins with the call: detect, header, put_asns, route or line.
 #![tactic(auto)]
 
-use cases::{Answer, Program};
+use cases::{Answer, Marked, Or, Program};
 use columns::Columns;
 use elem::Origin;
 use network::{IpAddr, NetworkPrefix};
 use path_text::AsnsError;
-use std::io;
 use std::io::Write;
+use std::{fmt, io};
 use text_dump_header::{HeaderError, TextDumpHeader};
 use text_dump_line::{Line, PrefixText, RouteEntry};
 
@@ -16,65 +16,54 @@ use text_dump_line::{Line, PrefixText, RouteEntry};
 const PLACES: usize = 64;
 
 // An address as its numbers.
-fn put_address(a: IpAddr, out: &mut Answer) -> io::Result<()> {
-    match a {
-        IpAddr::V4(n) => write!(out, "4:{n}"),
-        IpAddr::V6(upper, lower) => write!(out, "6:{upper}:{lower}"),
-    }
-}
+#[derive(Clone, Copy)]
+struct Address(IpAddr);
 
-fn put_prefix(p: NetworkPrefix, out: &mut Answer) -> io::Result<()> {
-    put_address(p.addr, out)?;
-    write!(out, "/{}", p.len)
-}
-
-fn put_u32(r: Option<u32>, out: &mut Answer) -> io::Result<()> {
-    match r {
-        Some(n) => write!(out, "{n}"),
-        None => write!(out, "-"),
-    }
-}
-
-fn put_u64(r: Option<u64>, out: &mut Answer) -> io::Result<()> {
-    match r {
-        Some(n) => write!(out, "{n}"),
-        None => write!(out, "-"),
-    }
-}
-
-fn put_router(r: Option<IpAddr>, out: &mut Answer) -> io::Result<()> {
-    match r {
-        Some(a) => put_address(a, out),
-        None => write!(out, "-"),
-    }
-}
-
-fn put_columns(r: Option<Columns>, out: &mut Answer) -> io::Result<()> {
-    match r {
-        Some(c) => {
-            let Columns {
-                next_hop,
-                metric,
-                local_pref,
-                weight,
-                path,
-            } = c;
-            write!(out, "{next_hop},{metric},{local_pref},{weight},{path}")
+impl fmt::Display for Address {
+    fn fmt<W: fmt::Write>(&self, f: &mut fmt::Formatter<W>) -> fmt::Result {
+        match self.0 {
+            IpAddr::V4(n) => write!(f, "4:{n}"),
+            IpAddr::V6(upper, lower) => write!(f, "6:{upper}:{lower}"),
         }
-        None => write!(out, "-"),
+    }
+}
+
+#[derive(Clone, Copy)]
+struct Prefix(NetworkPrefix);
+
+impl fmt::Display for Prefix {
+    fn fmt<W: fmt::Write>(&self, f: &mut fmt::Formatter<W>) -> fmt::Result {
+        write!(f, "{}/{}", Address(self.0.addr), self.0.len)
+    }
+}
+
+// The places of the columns.
+#[derive(Clone, Copy)]
+struct Places(Columns);
+
+impl fmt::Display for Places {
+    fn fmt<W: fmt::Write>(&self, f: &mut fmt::Formatter<W>) -> fmt::Result {
+        let Columns {
+            next_hop,
+            metric,
+            local_pref,
+            weight,
+            path,
+        } = self.0;
+        write!(f, "{next_hop},{metric},{local_pref},{weight},{path}")
     }
 }
 
 // What a header says, and where it ends.
 fn put_read(h: TextDumpHeader, end: usize, out: &mut Answer) -> io::Result<()> {
-    put_u64(h.table_version, out)?;
-    write!(out, " ")?;
-    put_router(h.router_id, out)?;
-    write!(out, " ")?;
-    put_u32(h.local_as, out)?;
-    write!(out, " ")?;
-    put_columns(h.columns, out)?;
-    write!(out, " {end}")
+    write!(
+        out,
+        "{} {} {} {} {end}",
+        Or(h.table_version, "-"),
+        Or(h.router_id.map(Address), "-"),
+        Or(h.local_as, "-"),
+        Or(h.columns.map(Places), "-")
+    )
 }
 
 fn put_header(
@@ -99,13 +88,7 @@ fn origin_mark(o: Option<Origin>) -> &'static str {
 fn put_list(asns: &[u32], out: &mut Answer) -> io::Result<()> {
     match asns {
         [] => write!(out, "-"),
-        [first, others @ ..] => {
-            write!(out, "{first}")?;
-            for asn in others {
-                write!(out, ",{asn}")?;
-            }
-            Ok(())
-        }
+        [first, others @ ..] => write!(out, "{first}{}", Marked(",", others)),
     }
 }
 
@@ -118,16 +101,18 @@ fn put_path(part: &[u8], out: &mut Answer) -> io::Result<()> {
     if n != path_text::count_asns(part) {
         return Ok(());
     }
-    put_list(&asns[..n.min(PLACES)], out)
+    put_list(cases::first(&asns, n), out)
 }
 
 fn put_entry(line: &[u8], e: RouteEntry, out: &mut Answer) -> io::Result<()> {
-    put_address(e.next_hop, out)?;
-    write!(out, " ")?;
-    put_u32(e.metric, out)?;
-    write!(out, " ")?;
-    put_u32(e.local_pref, out)?;
-    write!(out, " {} ", origin_mark(e.origin))?;
+    write!(
+        out,
+        "{} {} {} {} ",
+        Address(e.next_hop),
+        Or(e.metric, "-"),
+        Or(e.local_pref, "-"),
+        origin_mark(e.origin)
+    )?;
     put_path(cases::part(line, e.path_start, e.path_end), out)
 }
 
@@ -135,11 +120,7 @@ fn put_route(line: &[u8], text: PrefixText, e: RouteEntry, out: &mut Answer) -> 
     match text {
         PrefixText::Blank => write!(out, "blank ")?,
         PrefixText::Invalid => return write!(out, "invalid"),
-        PrefixText::Valid(p) => {
-            write!(out, "route ")?;
-            put_prefix(p, out)?;
-            write!(out, " ")?;
-        }
+        PrefixText::Valid(p) => write!(out, "route {} ", Prefix(p))?,
     }
     put_entry(line, e, out)
 }
@@ -148,10 +129,7 @@ fn put_line(line: &[u8], c: Columns, out: &mut Answer) -> io::Result<()> {
     match text_dump_line::line_of(line, c) {
         Line::Unreadable => write!(out, "unreadable"),
         Line::Passed => write!(out, "passed"),
-        Line::Wrapped(p) => {
-            write!(out, "wrapped ")?;
-            put_prefix(p, out)
-        }
+        Line::Wrapped(p) => write!(out, "wrapped {}", Prefix(p)),
         Line::Route(e, text) => put_route(line, text, e, out),
     }
 }
@@ -167,15 +145,12 @@ fn put_carried(line: &[u8], c: Columns, out: &mut Answer) -> io::Result<()> {
 // put_asns on lent places: the answer, and what all of them hold then.
 fn put_asns(part: &[u8], room: usize, out: &mut Answer) -> io::Result<()> {
     let mut places = [9; PLACES];
-    let lent = &mut places[..room.min(PLACES)];
+    let lent = cases::first_mut(&mut places, room);
     match path_text::put_asns(part, lent) {
         Ok(n) => write!(out, "{n}")?,
         Err(AsnsError::TooFewPlaces) => write!(out, "refused 7")?,
     }
-    for place in lent.iter() {
-        write!(out, ",{place}")?;
-    }
-    Ok(())
+    write!(out, "{}", Marked(",", lent))
 }
 
 fn columns_of(case: &[u8]) -> Columns {
@@ -194,10 +169,8 @@ impl Program for TextDumpCases {
     fn answer(&self, case: &[u8], out: &mut Answer) -> io::Result<()> {
         let mut bytes = [0; 4096];
         let mut line_bytes = [0; 4096];
-        let m = cases::hex(cases::field(case, 1), &mut bytes);
-        let n = cases::hex(cases::field(case, 6), &mut line_bytes);
-        let s = cases::part(&bytes, 0, m);
-        let line = cases::part(&line_bytes, 0, n);
+        let s = cases::hex(cases::field(case, 1), &mut bytes);
+        let line = cases::hex(cases::field(case, 6), &mut line_bytes);
         let name = cases::field(case, 0);
         if name.starts_with(b"detect") {
             let detected = text_dump_header::detect_text_dump(s);

@@ -1,7 +1,7 @@
 // Runs the cases of `text` and `scan` (data/cases.txt) and prints a line for each group.
 #![tactic(auto)]
 
-use cases::{Answer, InHex, Program};
+use cases::{Answer, InHex, Or, Program};
 use std::io;
 use std::io::Write;
 
@@ -27,13 +27,6 @@ fn put_word(w: Option<(usize, usize)>, out: &mut Answer) -> io::Result<()> {
     }
 }
 
-fn put_found(f: Option<usize>, out: &mut Answer) -> io::Result<()> {
-    match f {
-        Some(i) => write!(out, "{i}"),
-        None => write!(out, "none"),
-    }
-}
-
 fn put_yes_no(yes: bool, out: &mut Answer) -> io::Result<()> {
     write!(out, "{}", cases::yes_no(yes))
 }
@@ -44,17 +37,15 @@ impl Program for TextCases {
     fn answer(&self, line: &[u8], out: &mut Answer) -> io::Result<()> {
         let mut first = [0; 4096];
         let mut second = [0; 4096];
-        let m = cases::hex(cases::field(line, 1), &mut first);
-        let n = cases::hex(cases::field(line, 2), &mut second);
-        let s = cases::part(&first, 0, m);
-        let p = cases::part(&second, 0, n);
+        let s = cases::hex(cases::field(line, 1), &mut first);
+        let p = cases::hex(cases::field(line, 2), &mut second);
         let a = cases::number(line, 2);
         match cases::field(line, 0) {
             b"next_word" => put_word(scan::next_word(s, a), out),
             b"line_end" => write!(out, "{}", scan::line_end(s, a)),
             b"same" => put_yes_no(scan::same(s, p), out),
             b"starts_with" => put_yes_no(scan::starts_with(s, p), out),
-            b"find" => put_found(scan::find(s, p), out),
+            b"find" => write!(out, "{}", Or(scan::find(s, p), "none")),
             b"trim" | b"white" => write!(out, "{}", InHex(text::trim(s))),
             b"trim_end" => write!(out, "{}", InHex(text::trim_end(s))),
             b"trim_start" => write!(out, "{}", InHex(text::trim_start(s))),

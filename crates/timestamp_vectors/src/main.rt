@@ -2,7 +2,6 @@
 #![tactic(auto)]
 
 use cases::{Answer, Program};
-use output::PutError;
 use std::io;
 use std::io::Write;
 use timestamp::InferError;
@@ -13,18 +12,8 @@ fn put_timestamp(t: f64, out: &mut Answer) -> io::Result<()> {
         return write!(out, "no timestamp");
     };
     let mut text = [0; 32];
-    match seconds::put_timestamp(second, &mut text) {
-        Ok(n) => out.write_all(cases::part(&text, 0, n)),
-        Err(PutError::TooShort) => Ok(()),
-    }
-}
-
-fn put_inferred(answer: Result<Option<f64>, InferError>, out: &mut Answer) -> io::Result<()> {
-    match answer {
-        Ok(Some(t)) => put_timestamp(t, out),
-        Ok(None) => write!(out, "none"),
-        Err(InferError::NotUtf8) => write!(out, "notutf8"),
-    }
+    let r = seconds::put_timestamp(second, &mut text);
+    out.write_all(cases::written_or(r, &text, b""))
 }
 
 fn put_read(answer: Option<f64>, out: &mut Answer) -> io::Result<()> {
@@ -45,9 +34,11 @@ impl Program for TimestampCases {
             }
             _ => {
                 let mut bytes = [0; 4096];
-                let n = cases::hex(cases::field(line, 1), &mut bytes);
-                let path = cases::part(&bytes, 0, n);
-                put_inferred(timestamp::infer_timestamp_from_path(path), out)
+                let path = cases::hex(cases::field(line, 1), &mut bytes);
+                match timestamp::infer_timestamp_from_path(path) {
+                    Ok(answer) => put_read(answer, out),
+                    Err(InferError::NotUtf8) => write!(out, "notutf8"),
+                }
             }
         }
     }
