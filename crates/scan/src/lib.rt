@@ -108,7 +108,7 @@ pub fn line_end(s: &[u8], at: usize) -> usize
 fn is_gap(b: u8) -> bool
     ensures { result ≡ is_gap b }
 {
-    (b == b' ') | (b == b'\t') | (b == b'\n') | (b == 12) | (b == b'\r')
+    b.is_ascii_whitespace()
 }
 
 pub fn next_word(s: &[u8], at: usize) -> Option<(usize, usize)>
