@@ -28,9 +28,6 @@ char_le (a ∷ b ∷ c ∷ d ∷ s) = le_trans (search (cond_le, rules) depth 7)
     four_le : 4 ≤ length (a ∷ b ∷ c ∷ d ∷ s)
     four_le = omega arith
 
-pub char_within : (t : List ℕ) (k : ℕ) → k ≡ char_len t → k ≤ length t
-char_within t k e = rw e (char_le t)
-
 -- the first test of the grammar that passes
 pub char_none : (s : List ℕ) → length s ≡ 0 → 0 ≡ char_len s
 unfolding char_len

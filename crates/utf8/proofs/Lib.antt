@@ -4,4 +4,5 @@ pub mod CharLaws
 pub mod CharsLaws
 pub mod ReadableLaws
 pub mod EncodeLaws
+pub mod LibraryLaws
 pub mod EdgeLaws

@@ -1,41 +1,23 @@
--- Laws of readable text, as the loops meet it.
+-- Laws of readable text, and of ASCII as its loop meets it.
 use mathlib.Core.Path.{◌≡◌, refl, sym, ap, ◌∙◌}
 use mathlib.Core.List.{List, [], ◌∷◌, ◌++◌, flatten}
 use mathlib.Core.Bool.{Bool, true, false, not, ◌&&◌, and-false}
-use Prim.Native.Nat.{ℕ, ◌+◌, ◌-◌, ◌≤◌, ◌<◌, max}
+use Prim.Native.Nat.{ℕ, ◌+◌, ◌-◌, ◌≤◌, ◌<◌}
 use native.Mathlib.Omega.{arith}
 use lib.Dec.{ltb}
-use lib.ListN.{length, get_or, take, drop, length-drop}
+use lib.ListN.{length, take, drop, length-drop}
 use lib.Seq.{take_all, take-take}
-use borrow.Author.Tests.{leb-true, lt-ltb, not-true, not-false}
+use borrow.Author.Tests.{leb-true, not-true, not-false}
 use Rattle.utf8.specs.Utf8.{is_one, char_len, piece_len, chars_from, chars, is_char, all, readable}
 use Rattle.utf8.proofs.TestLaws.{both}
 use Rattle.utf8.proofs.ListLaws.{all_append, all_parts, all_more, all_split}
-use Rattle.utf8.proofs.CharLaws.{Begins, char_one, char_within}
+use Rattle.utf8.proofs.CharLaws.{Begins, char_one}
 use Rattle.utf8.proofs.CharsLaws.{chars_more, char_piece, chars_append, chars_of_front, chars_of_rest}
 
 -- the first character and the rest
 readable_more : (s : List ℕ) → 0 < length s → readable s ≡ (is_char s && readable (drop (piece_len s) s))
 unfolding all
 readable_more s h = ap (all is_char) (chars_more s h) ∙ ap (λ k. ltb 0 k && readable (drop (piece_len s) s)) (char_piece s h)
-
-pub readable_end : (s t : List ℕ) → readable s ≡ readable t → length t ≤ 0 → true ≡ readable s
-unfolding chars_from all
-readable_end s [] i h = sym i
-readable_end s (b ∷ t) i h = absurd (omega arith)
-
-module _ (s t : List ℕ) (i : readable s ≡ readable t) (h : 0 < length t) (k : ℕ) (e : k ≡ char_len t) where
-  pub readable_bad : k ≡ 0 → false ≡ readable s
-  readable_bad z = sym (i ∙ readable_more t h ∙ simp (← e, z))
-
-  pub readable_next : (k ≡ 0 → ⊥) → readable s ≡ readable (take (length t - k) (drop k t))
-  readable_next n =
-      let m : max 1 k ≡ k = omega arith in
-      i ∙ readable_more t h ∙ simp (← e, lt-ltb 0 k (omega arith), m, take_all (length t - k) (drop k t) (simp length-drop (omega arith)))
-
--- the same of one byte below 0x80
-pub readable_ascii : (s t : List ℕ) → readable s ≡ readable t → 0 < length t → get_or t 0 0 < 0x80 → readable s ≡ readable (take (length t - 1) (drop 1 t))
-readable_ascii s t i h l = readable_next s t i h 1 (char_one t (λ z. omega arith) l) (λ z. omega arith)
 
 -- ASCII is readable
 pub ascii_readable : (s : List ℕ) (r : Bool) → r ≡ all is_one s → r ≡ true → true ≡ readable s
@@ -87,7 +69,5 @@ readable_parts s l m e h =
     let r = all_parts is_char l m (ap (all is_char) (sym e) ∙ h) in
     (ap (all is_char) (chars_of_front l m s e) ∙ r.0, ap (all is_char) (chars_of_rest l m s e) ∙ r.1)
 
--- what the loops use
+-- what the loop uses
 pub ruleset ascii_laws = (seen_none, ascii_bad, ascii_more, ascii_last)
-
-pub ruleset readable_laws = (char_within, readable_end, readable_bad, readable_next, readable_ascii)

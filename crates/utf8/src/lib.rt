@@ -98,24 +98,11 @@ pub fn is_ascii(s: &[u8]) -> bool
     scan::all_pass::<Ascii>(&s[last..])
 }
 
-// Is it UTF-8? Character by character.
-#[tactic(auto, using(crate::proofs::ReadableLaws::readable_laws))]
+// Is it UTF-8?
 pub fn is_utf8(s: &[u8]) -> bool
     ensures { result ≡ readable s.now }
 {
-    let mut t = s;
-    while let [first, rest @ ..] = t {
-        if *first < 0x80 {
-            t = rest;
-            continue;
-        }
-        let k = char_len(t);
-        if k == 0 {
-            return false;
-        }
-        t = &t[k..];
-    }
-    true
+    str::from_utf8(s).is_ok()
 }
 
 // The same, for a text that is mostly ASCII, which one quick scan tells.
