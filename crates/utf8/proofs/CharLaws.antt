@@ -73,8 +73,23 @@ module _ (s : List ℕ) (l : 0x80 ≤ get_or s 0 0) (b : ℕ) (eb : b ≡ get_or
       pub char_bad : t₄ ≡ false → 0 ≡ char_len s
       char_bad y = sym (wide s l ∙ simp (← eb, ← e₂, n₂, ← ec, ← e₃, n₃, ← ed, ← e₄, y))
 
-pub past : (s : List ℕ) (i : ℕ) → length s ≤ i → 0 ≡ get_or s i 0
-past s i h = sym (get_or-eq_default s 0 h)
+-- a text too short for the next test of the grammar, where those before it failed
+pub ends_one : (s : List ℕ) → 0x80 ≤ get_or s 0 0 → length s < 2 → 0 ≡ char_len s
+unfolding char_len
+ends_one [] l h = refl
+ends_one (a ∷ []) l h = simp (lt-leb a 0x7F (omega arith), and-false)
+ends_one (a ∷ b ∷ s) l h = absurd (omega arith)
+
+module _ (s : List ℕ) (l : 0x80 ≤ get_or s 0 0) (t₂ : Bool) (e₂ : t₂ ≡ is_two (get_or s 0 0) (get_or s 1 0)) (n₂ : t₂ ≡ false) where
+  pub ends_two : length s < 3 → 0 ≡ char_len s
+  ends_two h =
+      let z : get_or s 2 0 ≡ 0 = get_or-eq_default s 0 (omega arith) in
+      sym (wide s l ∙ simp (← e₂, n₂, z, and-false))
+
+  pub ends_three : (t₃ : Bool) → t₃ ≡ is_three (get_or s 0 0) (get_or s 1 0) (get_or s 2 0) → t₃ ≡ false → length s < 4 → 0 ≡ char_len s
+  ends_three t₃ e₃ n₃ h =
+      let z : get_or s 3 0 ≡ 0 = get_or-eq_default s 0 (omega arith) in
+      sym (wide s l ∙ simp (← e₂, n₂, ← e₃, n₃, z, and-false))
 
 -- x is no UTF8-tail: the character in front of it ends there
 module _ (x : ℕ) (w : List ℕ) where
@@ -150,4 +165,4 @@ pub piece_le : (s : List ℕ) → 0 < length s → piece_len s ≤ length s
 piece_le s h = omega (arith, char_le s)
 
 -- what the length of a character uses
-pub ruleset char_laws = (char_none, char_one, char_two, char_three, char_four, char_bad)
+pub ruleset char_laws = (char_none, char_one, char_two, char_three, char_four, char_bad, ends_one, ends_two, ends_three)

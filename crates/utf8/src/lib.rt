@@ -37,34 +37,18 @@ fn is_four(a: u8, b: u8, c: u8, d: u8) -> bool
         || a == 0xF4 && matches!(b, 0x80..=0x8F) && is_tail(c) && is_tail(d)
 }
 
-// The byte at i, or 0 past the end.
-fn byte_at(s: &[u8], i: usize) -> u8
-    ensures { result ≡ get_or s.now i 0 }
-{
-    s.get(i).copied().unwrap_or(0)
-}
-
 // How many bytes the character at the front has; 0 where none begins there.
 #[tactic(auto, using(crate::proofs::CharLaws::char_laws))]
 pub fn char_len(s: &[u8]) -> usize
     ensures { result ≡ char_len s.now }
 {
-    let Some(&a) = s.first() else {
-        return 0;
-    };
-    if a < 0x80 {
-        return 1;
+    match s {
+        [a, ..] if *a < 0x80 => 1,
+        [a, b, ..] if is_two(*a, *b) => 2,
+        [a, b, c, ..] if is_three(*a, *b, *c) => 3,
+        [a, b, c, d, ..] if is_four(*a, *b, *c, *d) => 4,
+        _ => 0,
     }
-    let b = byte_at(s, 1);
-    if is_two(a, b) {
-        return 2;
-    }
-    let c = byte_at(s, 2);
-    if is_three(a, b, c) {
-        return 3;
-    }
-    let d = byte_at(s, 3);
-    if is_four(a, b, c, d) { 4 } else { 0 }
 }
 
 struct Ascii;
