@@ -74,7 +74,7 @@ pub fn parse_column_header(line: &[u8]) -> Option<Columns>
         weight: last_place(line, b"Weight")?,
         path: last_place(line, b"Path")?,
     };
-    if are_rising(c) { Some(c) } else { None }
+    are_rising(c).then_some(c)
 }
 
 #[tactic(auto, using(crate::proofs::Laws::shift_laws))]
