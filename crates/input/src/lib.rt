@@ -28,10 +28,7 @@ pub fn line_at(input: &[u8], at: usize, ended: bool) -> Front
     if 65536 < end {
         return Front::TooLong;
     }
-    if ended {
-        return Front::Line(end);
-    }
-    if input[end - 1] == b'\n' {
+    if ended || input[end - 1] == b'\n' {
         return Front::Line(end);
     }
     Front::Starved
