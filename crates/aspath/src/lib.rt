@@ -93,7 +93,9 @@ impl TryFrom<u8> for SegmentKind {
 fn any_kind_over(kinds: &[u8]) -> bool
     ensures { result ≡ any (ltb 3) kinds.now }
 {
-    kinds.iter().any(|kind| 3 < *kind)
+    kinds
+        .iter()
+        .any(|kind| SegmentKind::try_from(*kind).is_err())
 }
 
 fn sum_lengths(lengths: &[u32]) -> u64
