@@ -212,11 +212,7 @@ impl<'a> AsPath<'a> {
     pub fn route_len(self) -> usize
         ensures { result ≡ route_len (segments_in self.entry) }
     {
-        let mut len = 0;
-        for segment in self.segments() {
-            len += segment.route_len();
-        }
-        len
+        self.segments().map(|segment| segment.route_len()).sum()
     }
 
     // Whether a set has nothing to choose from.
