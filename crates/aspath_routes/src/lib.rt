@@ -197,6 +197,7 @@ fn left_of(segment: Segment, k: u64) -> u64
     }
 }
 
+// Stays with a place: a writer of u32, as output's of bytes, would serve this one loop alone.
 fn write_route(path: AsPath, number: u64, out: &mut [u32]) -> usize
     ensures { Written (numbered (segments_in path.entry) number) out.old 0 out.new result }
 {
