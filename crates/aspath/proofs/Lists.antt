@@ -1,6 +1,6 @@
 -- Laws of folds, for a loop that keeps what the elements so far make.
 use mathlib.Core.Path.{◌≡◌, refl, sym, ◌∙◌}
-use mathlib.Core.List.{List, [], ◌∷◌}
+use mathlib.Core.List.{List, [], ◌∷◌, map}
 use mathlib.Core.Bool.{Bool, true, false, ◌&&◌}
 use Prim.Native.Nat.{ℕ}
 use native.Mathlib.Omega.{arith}
@@ -34,3 +34,8 @@ pub sum_is : (xs : List ℕ) → total xs ≡ sum_of (λ n. n) xs
 unfolding fold_map
 sum_is [] = refl
 sum_is (x ∷ xs) = sum_by-cons (λ n. n) x xs ∙ rw (sum_is xs)
+
+pub sum_map_is : {A : Type 0} (f : A → ℕ) (xs : List A) → total (map f xs) ≡ sum_of f xs
+unfolding fold_map
+sum_map_is f [] = refl
+sum_map_is f (x ∷ xs) = sum_by-cons (λ n. n) (f x) (map f xs) ∙ rw (sum_map_is f xs)

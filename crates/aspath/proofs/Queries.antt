@@ -4,13 +4,11 @@ use mathlib.Core.List.{List, [], ◌∷◌}
 use mathlib.Core.Logic.{⊎_elim}
 use mathlib.Core.Bool.{Bool, true, false, cond, ◌&&◌, ◌||◌}
 use Prim.Native.Nat.{ℕ, zero, suc, ◌+◌, ◌*◌, ◌≤◌, ◌<◌, ◌^◌}
-use native.Mathlib.Nat.{add_assoc, add-zero, mul_assoc, mul-one, zero-mul, mul-zero, mul-pos, pos_of_ne-zero, ne_of_gt, le-mul_of_pos_right, eq-zero-or-pos}
+use native.Mathlib.Nat.{mul_assoc, mul-one, zero-mul, mul-zero, mul-pos, pos_of_ne-zero, ne_of_gt, le-mul_of_pos_right, eq-zero-or-pos}
 use native.Mathlib.Omega.{arith}
 use lib.ListN.{length, length-append, length-map}
 use lib.Dec.{eqb, eqb-suc-zero}
 use borrow.Author.Tests.{lt-ltb, le-ltb, ne_eqb, eqb-true, eqb-false}
-use mir.Syntax.{w64}
-use mir.Val.{Fits}
 use Rattle.std.specs.Prelude.{Some, Ok, Err}
 use Rattle.std.specs.List.{list_any}
 use Rattle.aspath.specs.Lists.{fold_map, sum}
@@ -42,17 +40,6 @@ route_len_bound ks ls ns a b c d =
     let kinds : length (cut ks ls ns) ≡ length ks = sym (length-map (cut ks ls ns) (λ x. x.kind)) ∙ ap length (cut_kinds ks ls ns (sym c)) in
     let numbers : length (numbers_of (cut ks ls ns)) ≡ length ns = ap length (cut_numbers ks ls ns (sym c) d) in
     omega (arith, route_len_small (cut ks ls ns), kinds, numbers)
-
--- the length of the routes through one segment more
-module _ (whole left rest : List Segment) (x : Segment) (t v : ℕ) (known : route_len whole ≡ t + route_len left) (first : left ≡ x ∷ rest) (is : v ≡ segment_route_len x.kind (length x.numbers)) where
-  pub route_len_step : route_len whole ≡ t + v + route_len rest
-  route_len_step = fold_step ◌+◌ 0 add_assoc add-zero (λ y. segment_route_len y.kind (length y.numbers)) whole left t known x rest v first is
-
-  pub route_len_fits : route_len whole ≤ 20480 → Fits w64 (t + v)
-  route_len_fits small = record { fits = omega (arith, route_len_step) }
-
-pub route_len_done : (whole left : List Segment) (t : ℕ) → route_len whole ≡ t + route_len left → left ≡ [] → t ≡ route_len whole
-route_len_done = fold_done ◌+◌ 0 add_assoc add-zero (λ y. segment_route_len y.kind (length y.numbers))
 
 eqb_mul : (a b : ℕ) → eqb a 0 || eqb b 0 ≡ eqb (a * b) 0
 eqb_mul zero b = simp zero-mul

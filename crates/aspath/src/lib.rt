@@ -93,7 +93,9 @@ impl TryFrom<u8> for SegmentKind {
 fn any_kind_over(kinds: &[u8]) -> bool
     ensures { result ≡ any (ltb 3) kinds.now }
 {
-    kinds.iter().any(|kind| 3 < *kind)
+    kinds
+        .iter()
+        .any(|kind| SegmentKind::try_from(*kind).is_err())
 }
 
 fn sum_lengths(lengths: &[u32]) -> u64
@@ -210,11 +212,7 @@ impl<'a> AsPath<'a> {
     pub fn route_len(self) -> usize
         ensures { result ≡ route_len (segments_in self.entry) }
     {
-        let mut len = 0;
-        for segment in self.segments() {
-            len += segment.route_len();
-        }
-        len
+        self.segments().map(|segment| segment.route_len()).sum()
     }
 
     // Whether a set has nothing to choose from.

@@ -1,14 +1,14 @@
 // The normal forms of a path, made in the lent lists.
-// Stays three lent lists and two counts: coalesce is lent its numbers to read alone and
-// dedup_coalesce to change, so two structs more would stand beside PathRecord for two calls.
 #![tactic(auto)]
 
 ghost use Rattle.std.specs.Prelude.{◌≡◌, ◌+◌, ◌≤◌, ◌<◌, ◌^◌, map, length, take, drop, replicate};
 ghost use Rattle.sort.specs.Dedup.{dedup};
 ghost use Rattle.aspath.specs.Lists.{sum};
 ghost use Rattle.aspath.specs.Record.{cut, path, kinds_of, lengths_of, numbers_of};
+ghost use Rattle.aspath.specs.Segments.{path_of};
 ghost use Rattle.aspath_normal.specs.Normal.{is_sequence, single_kind, sort_set, coalesce, dedup_coalesce};
 ghost use Rattle.aspath_normal.specs.Layout.{padded, after, counts};
+ghost use Rattle.aspath_normal.specs.Lent.{path_lent, LeftAs};
 ghost use Rattle.aspath_normal.specs.Parts.{FirstKept, kept_from, Deduped};
 ghost use Rattle.aspath_normal.specs.Whole.{Fit, NormalIn};
 ghost use Rattle.aspath_normal.specs.Entries.{Coalesced, merge_entries, entries};
@@ -20,6 +20,31 @@ use aspath::{PathRecord, Spoilt};
 pub struct Counts {
     pub segments: usize,
     pub numbers: usize,
+}
+
+// A path record whose lists are lent to be changed in place.
+#[derive(Drop)]
+pub struct LentPath<'a> {
+    pub kinds: &'a mut [u8],
+    pub lengths: &'a mut [u32],
+    pub numbers: &'a mut [u32],
+    pub segments: usize,
+    pub count: usize,
+}
+
+impl<'a> LentPath<'a> {
+    // The record to read.
+    pub fn record(&self) -> PathRecord<'_>
+        ensures { path_of result ≡ path_lent self.now }
+    {
+        PathRecord {
+            kinds: self.kinds,
+            lengths: self.lengths,
+            numbers: self.numbers,
+            segments: self.segments,
+            count: self.count,
+        }
+    }
 }
 
 fn is_sequence(kind: u8) -> bool
@@ -94,7 +119,7 @@ fn coalesce_entries(kinds: &mut [u8], lengths: &mut [u32]) -> usize
 }
 
 // AsPath::coalesce. The numbers stay where they are.
-// Stays with a record of its lists, as dedup_coalesce: a function for both would take all five.
+// Stays with lists and counts: a LentPath would ask its caller for leave to change the numbers.
 #[tactic(auto, using(crate::proofs::Answers::record_laws))]
 pub fn coalesce(
     kinds: &mut [u8],
@@ -232,29 +257,16 @@ fn normalise(kinds: &mut [u8], lengths: &mut [u32], numbers: &mut [u32]) -> Coun
 
 // AsPath::dedup_coalesce
 #[tactic(auto, using(crate::proofs::Answers::record_laws))]
-pub fn dedup_coalesce(
-    kinds: &mut [u8],
-    lengths: &mut [u32],
-    numbers: &mut [u32],
-    segments: usize,
-    count: usize,
-) -> Result<Counts, Spoilt>
-    ensures value { result ≡ counts dedup_coalesce (path kinds.old lengths.old numbers.old segments count) }
-    ensures kinds { kinds.new ≡ after (λ p. kinds_of (dedup_coalesce p)) (path kinds.old lengths.old numbers.old segments count) segments kinds.old }
-    ensures lengths { lengths.new ≡ after (λ p. lengths_of (dedup_coalesce p)) (path kinds.old lengths.old numbers.old segments count) segments lengths.old }
-    ensures numbers { numbers.new ≡ after (λ p. numbers_of (dedup_coalesce p)) (path kinds.old lengths.old numbers.old segments count) count numbers.old }
+pub fn dedup_coalesce(lent: &mut LentPath) -> Result<Counts, Spoilt>
+    ensures value { result ≡ counts dedup_coalesce (path_lent lent.old) }
+    ensures lists { LeftAs dedup_coalesce (path_lent lent.old) lent.old lent.new }
 {
-    PathRecord {
-        kinds,
-        lengths,
-        numbers,
-        segments,
-        count,
-    }
-    .check()?;
+    lent.record().check()?;
+    let segments = lent.segments;
+    let count = lent.count;
     Ok(normalise(
-        &mut kinds[..segments],
-        &mut lengths[..segments],
-        &mut numbers[..count],
+        &mut lent.kinds[..segments],
+        &mut lent.lengths[..segments],
+        &mut lent.numbers[..count],
     ))
 }

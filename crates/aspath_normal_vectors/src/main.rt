@@ -7,9 +7,9 @@
 // one digit for each kind, length and number. An answer ends with all places that were lent.
 #![tactic(auto)]
 
-use aspath::Spoilt;
+use aspath::{PathRecord, Spoilt};
 use aspath_equivalence::Equivalence;
-use aspath_normal::Counts;
+use aspath_normal::{Counts, LentPath};
 use cases::{Answer, InHex, Marked, Program};
 use path_cases::Lists;
 use std::io;
@@ -39,39 +39,31 @@ fn put_equivalence(answer: Result<Equivalence, Spoilt>, out: &mut Answer) -> io:
     }
 }
 
-// The places that a record's lists have.
-fn lent(lists: &mut Lists) -> (&mut [u8], &mut [u32], &mut [u32]) {
-    let Lists {
+// The record of a line's lists, with the two counts whose fields are told.
+fn lent<'a>(lists: &'a mut Lists, line: &[u8], counts: [usize; 2]) -> LentPath<'a> {
+    let (kinds, lengths, numbers) = lists.parts_mut();
+    let [segments, count] = counts.map(|n| cases::number(line, n));
+    LentPath {
         kinds,
         lengths,
         numbers,
-        loaded,
-    } = lists;
-    (
-        cases::first_mut(kinds, loaded.kinds),
-        cases::first_mut(lengths, loaded.lengths),
-        cases::first_mut(numbers, loaded.numbers),
-    )
+        segments,
+        count,
+    }
 }
 
-fn put_record(
-    mark: &str,
-    kinds: &[u8],
-    lengths: &[u32],
-    numbers: &[u32],
-    out: &mut Answer,
-) -> io::Result<()> {
+fn put_record(mark: &str, record: PathRecord, out: &mut Answer) -> io::Result<()> {
     write!(
         out,
         " {} {} {}",
-        InHex(kinds),
-        Marked(mark, lengths),
-        Marked(mark, numbers)
+        InHex(record.kinds),
+        Marked(mark, record.lengths),
+        Marked(mark, record.numbers)
     )
 }
 
 // What a call answers of the record, and what it leaves in its lists.
-fn answer_call<F: Fn(&mut [u8], &mut [u32], &mut [u32], usize, usize) -> Result<Counts, Spoilt>>(
+fn answer_call<F: Fn(&mut LentPath) -> Result<Counts, Spoilt>>(
     call: F,
     line: &[u8],
     mut lists: Lists,
@@ -80,27 +72,18 @@ fn answer_call<F: Fn(&mut [u8], &mut [u32], &mut [u32], usize, usize) -> Result<
 ) -> io::Result<()>
     requires { F.IsAlwaysCallable call }
 {
-    let (kinds, lengths, numbers) = lent(&mut lists);
-    let answer = call(
-        kinds,
-        lengths,
-        numbers,
-        cases::number(line, 4),
-        cases::number(line, 5),
-    );
+    let mut record = lent(&mut lists, line, [4, 5]);
+    let answer = call(&mut record);
     put_normalised(answer, out)?;
-    put_record(mark, kinds, lengths, numbers, out)
+    put_record(mark, record.record(), out)
 }
 
-// The numbers are lent shared: it moves none.
-fn coalesce(
-    kinds: &mut [u8],
-    lengths: &mut [u32],
-    numbers: &mut [u32],
-    segments: usize,
-    count: usize,
-) -> Result<Counts, Spoilt> {
-    aspath_normal::coalesce(kinds, lengths, numbers, segments, count)
+// It is lent the numbers shared, for it moves none.
+fn coalesce(lent: &mut LentPath) -> Result<Counts, Spoilt> {
+    let segments = lent.segments;
+    let count = lent.count;
+    let numbers = &mut *lent.numbers;
+    aspath_normal::coalesce(lent.kinds, lent.lengths, numbers, segments, count)
 }
 
 fn answer_all(line: &[u8], out: &mut Answer) -> io::Result<()> {
@@ -111,25 +94,14 @@ fn answer_all(line: &[u8], out: &mut Answer) -> io::Result<()> {
 }
 
 fn answer_equivalent(line: &[u8], out: &mut Answer) -> io::Result<()> {
-    let mut first = path_cases::load(line, 1);
-    let mut second = path_cases::load(line, 6);
-    let (kinds, lengths, numbers) = lent(&mut first);
-    let (kinds2, lengths2, numbers2) = lent(&mut second);
-    let answer = aspath_equivalence::has_equivalent_routing(
-        kinds,
-        lengths,
-        numbers,
-        cases::number(line, 4),
-        cases::number(line, 5),
-        kinds2,
-        lengths2,
-        numbers2,
-        cases::number(line, 9),
-        cases::number(line, 10),
-    );
+    let mut lists = path_cases::load(line, 1);
+    let mut lists2 = path_cases::load(line, 6);
+    let mut first = lent(&mut lists, line, [4, 5]);
+    let mut second = lent(&mut lists2, line, [9, 10]);
+    let answer = aspath_equivalence::has_equivalent_routing(&mut first, &mut second);
     put_equivalence(answer, out)?;
-    put_record(",", kinds, lengths, numbers, out)?;
-    put_record(",", kinds2, lengths2, numbers2, out)
+    put_record(",", first.record(), out)?;
+    put_record(",", second.record(), out)
 }
 
 struct NormalCases;

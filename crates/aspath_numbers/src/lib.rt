@@ -35,12 +35,8 @@ fn last_segment<'a>(path: AsPath<'a>) -> Option<Segment<'a>>
 fn origin(path: AsPath) -> Option<u32>
     ensures { result ≡ origin_of (slice_get (segments_in path.entry) (length (segments_in path.entry) - 1)) }
 {
-    let last = last_segment(path)?;
-    if is_single(last) {
-        last.numbers.last().copied()
-    } else {
-        None
-    }
+    let last = last_segment(path).filter(|segment| is_single(*segment))?;
+    last.numbers.last().copied()
 }
 
 pub fn get_origin_opt(lent: PathRecord) -> Result<Option<u32>, Spoilt>
@@ -52,12 +48,11 @@ pub fn get_origin_opt(lent: PathRecord) -> Result<Option<u32>, Spoilt>
 fn collector(path: AsPath) -> Option<u32>
     ensures { result ≡ collector_of (slice_get (segments_in path.entry) 0) }
 {
-    let (first, _) = path.split_first()?;
-    if is_single(first) {
-        first.numbers.first().copied()
-    } else {
-        None
-    }
+    let first = path
+        .segments()
+        .next()
+        .filter(|segment| is_single(*segment))?;
+    first.numbers.first().copied()
 }
 
 pub fn get_collector_opt(lent: PathRecord) -> Result<Option<u32>, Spoilt>

@@ -190,13 +190,14 @@ fn taken<'a>(segment: Segment<'a>, k: u64) -> &'a [u32]
 fn left_of(segment: Segment, k: u64) -> u64
     ensures { result ≡ left (kind_number segment.entry.kind) (length segment.entry.numbers.now) k }
 {
-    let length = segment.numbers.len();
+    let length = segment.numbers.len() as u64;
     match segment.kind {
-        SegmentKind::AsSet => if length == 0 { k } else { k / (length as u64) },
+        SegmentKind::AsSet => k.checked_div(length).unwrap_or(k),
         SegmentKind::AsSequence | SegmentKind::ConfedSequence | SegmentKind::ConfedSet => k,
     }
 }
 
+// Stays with a place: a writer of u32, as output's of bytes, would serve this one loop alone.
 fn write_route(path: AsPath, number: u64, out: &mut [u32]) -> usize
     ensures { Written (numbered (segments_in path.entry) number) out.old 0 out.new result }
 {

@@ -90,23 +90,23 @@ fn ask(
     places: &mut [u32],
     out: &mut Answer,
 ) -> io::Result<()> {
-    if scan::starts_with(name, b"route_len") {
+    if name.starts_with(b"route_len") {
         return put(record.route_len(), out);
     }
-    if scan::starts_with(name, b"variations") {
+    if name.starts_with(b"variations") {
         return put(record.num_route_variations(), out);
     }
-    if scan::starts_with(name, b"contains") {
+    if name.starts_with(b"contains") {
         let asn = (arg % 4294967296) as u32;
         return put(
             aspath_numbers::contains_asn(record, asn).map(cases::yes_no),
             out,
         );
     }
-    if scan::starts_with(name, b"origin") {
+    if name.starts_with(b"origin") {
         return put_option(aspath_numbers::get_origin_opt(record), out);
     }
-    if scan::starts_with(name, b"collector") {
+    if name.starts_with(b"collector") {
         return put_option(aspath_numbers::get_collector_opt(record), out);
     }
     write(name, record, arg, places, out)
@@ -120,12 +120,12 @@ fn write(
     places: &mut [u32],
     out: &mut Answer,
 ) -> io::Result<()> {
-    if scan::starts_with(name, b"u32vec") {
+    if name.starts_with(b"u32vec") {
         let r = aspath_routes::to_u32_vec_opt(record, arg == 1, places);
         put_option(r, out)?;
         return write!(out, "{}", Marked(",", places));
     }
-    if scan::starts_with(name, b"route") {
+    if name.starts_with(b"route") {
         let r = aspath_routes::numbered_route(record, arg as u64, places);
         put(r, out)?;
         return write!(out, "{}", Marked(",", places));
@@ -246,17 +246,18 @@ fn all(
 }
 
 fn load(line: &[u8]) -> Lists {
-    if scan::same(cases::field(line, 0), b"all") {
+    if cases::field(line, 0) == b"all".as_slice() {
         return path_cases::load_digits(line);
     }
     path_cases::load(line, 1)
 }
 
 fn record_of<'a>(lists: &'a Lists, line: &[u8]) -> PathRecord<'a> {
+    let (kinds, lengths, numbers) = lists.parts();
     PathRecord {
-        kinds: cases::part(&lists.kinds, 0, lists.loaded.kinds),
-        lengths: cases::first(&lists.lengths, lists.loaded.lengths),
-        numbers: cases::first(&lists.numbers, lists.loaded.numbers),
+        kinds,
+        lengths,
+        numbers,
         segments: cases::number(line, 4),
         count: cases::number(line, 5),
     }
@@ -274,10 +275,10 @@ impl Program for PathCases {
         let mut places = [7; 300];
         let mut bytes = [0; 4096];
         let lent = cases::first_mut(&mut places, room);
-        if scan::same(name, b"all") {
+        if name == b"all".as_slice() {
             return all(record, lent, cases::first_mut(&mut bytes, arg), out);
         }
-        if scan::starts_with(name, b"display") {
+        if name.starts_with(b"display") {
             return show(record, cases::first_mut(&mut bytes, room), out);
         }
         ask(name, record, arg, lent, out)

@@ -25,19 +25,44 @@ fn digits(s: &[u8], out: &mut [u8]) -> usize {
 
 // How many of each a record has.
 #[derive(Clone, Copy, Default)]
-pub struct Loaded {
-    pub kinds: usize,
-    pub lengths: usize,
-    pub numbers: usize,
+struct Loaded {
+    kinds: usize,
+    lengths: usize,
+    numbers: usize,
 }
 
 // The places that a record is read into; the first of them are the record's.
 #[derive(Drop)]
 pub struct Lists {
-    pub kinds: [u8; 64],
-    pub lengths: [u32; 64],
-    pub numbers: [u32; 256],
-    pub loaded: Loaded,
+    kinds: [u8; 64],
+    lengths: [u32; 64],
+    numbers: [u32; 256],
+    loaded: Loaded,
+}
+
+impl Lists {
+    // The record's kinds, lengths and numbers.
+    pub fn parts(&self) -> (&[u8], &[u32], &[u32]) {
+        (
+            cases::first(&self.kinds, self.loaded.kinds),
+            cases::first(&self.lengths, self.loaded.lengths),
+            cases::first(&self.numbers, self.loaded.numbers),
+        )
+    }
+
+    pub fn parts_mut(&mut self) -> (&mut [u8], &mut [u32], &mut [u32]) {
+        let Lists {
+            kinds,
+            lengths,
+            numbers,
+            loaded,
+        } = self;
+        (
+            cases::first_mut(kinds, loaded.kinds),
+            cases::first_mut(lengths, loaded.lengths),
+            cases::first_mut(numbers, loaded.numbers),
+        )
+    }
 }
 
 // The record of three fields: `bytes` reads a field, and `numbers` the third one's bytes.

@@ -1,10 +1,21 @@
+use mathlib.Core.Path.{refl, ◌∙◌}
 use Rattle.aspath_normal.proofs.Answers.{normal_counts, normal_kinds, normal_lengths, normal_numbers}
 use Rattle.aspath_normal.proofs.dedup_coalesce.Goals as goal
 
 pub returns : goal.returns
-returns c = record {
-  value = normal_counts _ _ _ _ _ _ c.in_ok-check.ensures _ _ _ _ _ c.normalise.ensures;
-  kinds = normal_kinds _ _ _ _ _ _ c.in_ok-check.ensures _ _ _ _ _ c.normalise.ensures;
-  lengths = normal_lengths _ _ _ _ _ _ c.in_ok-check.ensures _ _ _ _ _ c.normalise.ensures;
-  numbers = normal_numbers _ _ _ _ _ _ c.in_ok-check.ensures _ _ _ _ _ c.normalise.ensures;
-}
+returns c =
+    let e = c.in_ok-check.ensures ∙ c.record.ensures in
+    let d = c.normalise.ensures in
+    record {
+      value = normal_counts _ _ _ _ _ _ e _ _ _ _ _ d;
+      lists = record {
+        same_kinds = refl;
+        same_lengths = refl;
+        same_numbers = refl;
+        same_segments = refl;
+        same_count = refl;
+        kinds = normal_kinds _ _ _ _ _ _ e _ _ _ _ _ d;
+        lengths = normal_lengths _ _ _ _ _ _ e _ _ _ _ _ d;
+        numbers = normal_numbers _ _ _ _ _ _ e _ _ _ _ _ d;
+      };
+    }
