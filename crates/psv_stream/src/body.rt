@@ -10,7 +10,7 @@ ghost use Rattle.psv_stream.specs.Parts.{front_of, Fine, Begins, kept_len, Kept,
 ghost use Rattle.psv_stream.specs.declared.Phase.TheVariants as phase;
 
 use crate::route::print_route;
-use crate::{LINE, Phase, Ran, Refusal, Step, refuse};
+use crate::{LINE, PLACES, Phase, Ran, Refusal, Step, refuse};
 use input::Front;
 use network::NetworkPrefix;
 use output::Writer;
@@ -39,7 +39,7 @@ struct Place {
 struct Buffers {
     start: [u8; 160],
     front_len: usize,
-    asns: [u32; 16384],
+    asns: [u32; PLACES],
 }
 
 impl Buffers {
@@ -47,7 +47,7 @@ impl Buffers {
         Buffers {
             start: [0; 160],
             front_len: 0,
-            asns: [0; 16384],
+            asns: [0; PLACES],
         }
     }
 }

@@ -19,8 +19,14 @@ use path_text::AsnsError;
 use psv::ElementError;
 use text_dump::State;
 
-// The room that a line is printed into: 65,536 bytes and a line feed.
-const LINE: usize = 65537;
+// The longest text of an element's line.
+const TEXT: usize = 65536;
+
+// The room that a line is printed into: such a text and a line feed.
+const LINE: usize = TEXT + 1;
+
+// How many AS numbers a path may have.
+const PLACES: usize = 16384;
 
 // Where the program is in its input.
 #[derive(Clone, Copy)]
