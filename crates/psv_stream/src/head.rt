@@ -16,25 +16,25 @@ use timestamp::InferError;
 
 // What is printed at the input's end.
 #[tactic(auto, using(crate::proofs::Lines::end_laws))]
-fn end(phase: Phase, out: &mut [u8; LINE]) -> usize
+fn at_end(phase: Phase, out: &mut [u8; LINE]) -> usize
     ensures { Ends phase out.old out.new result }
 {
     match phase {
-        Phase::Path => refuse(Refusal::NoColumns, 0, out),
-        Phase::Header(_, _, _) => refuse(Refusal::NoColumns, 0, out),
-        Phase::Body(_, _) => 0,
-        Phase::Stopped => 0,
+        Phase::Path | Phase::Header(..) => refuse(Refusal::NoColumns, 0, out),
+        Phase::Body(..) | Phase::Stopped => 0,
     }
 }
 
+// What is printed of a line that is too long.
 #[tactic(auto, using(crate::proofs::Lines::long_laws))]
 fn too_long(phase: Phase, out: &mut [u8; LINE]) -> usize
     ensures { TooLong phase out.old out.new result }
 {
     match phase {
         Phase::Path => refuse(Refusal::LineTooLong, 0, out),
-        Phase::Header(_, n, _) => refuse(Refusal::LineTooLong, n.wrapping_add(1), out),
-        Phase::Body(_, n) => refuse(Refusal::LineTooLong, n.wrapping_add(1), out),
+        Phase::Header(_, n, _) | Phase::Body(_, n) => {
+            refuse(Refusal::LineTooLong, n.wrapping_add(1), out)
+        }
         Phase::Stopped => 0,
     }
 }
@@ -86,8 +86,7 @@ pub(crate) fn is_head(phase: Phase) -> bool
     ensures { result ≡ is_head phase }
 {
     match phase {
-        Phase::Path => true,
-        Phase::Header(_, _, _) => true,
+        Phase::Path | Phase::Header(..) => true,
         Phase::Body(state, _) => state.turn().is_spoilt(0),
         Phase::Stopped => false,
     }
@@ -115,10 +114,8 @@ fn header_bytes(phase: Phase) -> usize
     ensures { result ≡ header_bytes phase }
 {
     match phase {
-        Phase::Path => 0,
         Phase::Header(_, _, size) => size,
-        Phase::Body(_, _) => 0,
-        Phase::Stopped => 0,
+        Phase::Path | Phase::Body(..) | Phase::Stopped => 0,
     }
 }
 
@@ -129,7 +126,7 @@ fn take_line(phase: Phase, input: &[u8], ended: bool, out: &mut [u8; LINE]) -> S
 {
     match input::line_at(input, header_bytes(phase), ended) {
         Front::Starved => Step::Starved,
-        Front::Nothing => Step::Stops(end(phase, out)),
+        Front::Nothing => Step::Stops(at_end(phase, out)),
         Front::TooLong => Step::Stops(too_long(phase, out)),
         Front::Line(end) => on_line(phase, &input[..end], out),
     }
