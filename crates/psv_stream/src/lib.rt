@@ -98,7 +98,7 @@ impl From<ElementError> for Refusal {
 }
 
 // What a line comes to: how many bytes are consumed, how many are written, and where the next line
-// is taken from (a Phase in the head, a Place in the body); or the last bytes that are written. The
+// is taken from (a Phase in the head, a Cursor in the body); or the last bytes that are written. The
 // numbers come first, so that each stands at the same place in every variant.
 #[derive(Clone, Copy)]
 enum Step<P> {

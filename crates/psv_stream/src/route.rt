@@ -87,14 +87,14 @@ fn plain_path(path: &[u8]) -> Option<(usize, usize)>
 
 // The line of a route whose path is plain, with a line feed, after what the line begins with; None,
 // and nothing written, where the path is not plain or the line not surely short enough.
-fn copy_route(begin: &[u8], path: &[u8], e: Element, out: &mut [u8; LINE]) -> Option<usize>
-    ensures { Copies begin.now path.now e out.old out.new result }
+fn copy_route(start: &[u8], path: &[u8], e: Element, out: &mut [u8; LINE]) -> Option<usize>
+    ensures { Copies start.now path.now e out.old out.new result }
 {
     if PLACES < path.len() {
         return None;
     }
     let (last, end) = plain_path(path)?;
-    let at = psv::put_texts(begin, &path[..end], &path[last..end], e, &mut out[..TEXT]).ok()?;
+    let at = psv::put_texts(start, &path[..end], &path[last..end], e, &mut out[..TEXT]).ok()?;
     let mut w = Writer { out, at };
     w.byte(b'\n');
     Some(w.at)

@@ -3,7 +3,7 @@ use Rattle.std.proofs.Common.{rules}
 use Rattle.psv_stream.proofs.body.body_line.Goals as goal
 
 pub route_line-requires : goal.route_line-requires
-route_line-requires c = record { line_value = search rules; text_value = its_line c.args.state c.args.b _ _ c.requires.kept _ c.requires.line_value _ c.line_of.ensures _ _ c.in-Route.is; kept = search rules }
+route_line-requires c = record { line_value = search rules; text_value = its_line c.args.state c.args.cursor _ _ c.requires.kept _ c.requires.line_value _ c.line_of.ensures _ _ c.in-Route.is; kept = search rules }
 
 pub returns-in-Unreadable : goal.returns-in-Unreadable
 returns-in-Unreadable c = record { body_does = search six; keeps = tt }
