@@ -8,6 +8,7 @@ ghost use Rattle.psv_stream.specs.Refusal.{number};
 ghost use Rattle.psv_stream.specs.Run.{Runs};
 ghost use Rattle.psv_stream.specs.Parts.{front_of, Fine, Starts, kept_len, Kept, BodyDoes, Keeps, phase_of, BodySteps, IfRoom};
 ghost use Rattle.psv_stream.specs.declared.Phase.TheVariants as phase;
+ghost use Rattle.psv_stream.specs.declared.Step.TheVariants as step;
 
 use crate::route::print_route;
 use crate::{LINE, PLACES, Phase, Ran, Refusal, Step, refuse};
@@ -100,6 +101,18 @@ fn kept_len(text: PrefixText, start_len: usize) -> usize
     }
 }
 
+// A line of the body is taken: the reading state is at its end then.
+#[inline(always)]
+fn took(written: usize, next: Cursor) -> Step<Cursor>
+    ensures { result ≡ step.Took next.position written next }
+{
+    Step::Took {
+        consumed: next.position,
+        written,
+        next,
+    }
+}
+
 // A line with a route.
 fn route_line(
     buffers: &mut Buffers,
@@ -116,33 +129,23 @@ fn route_line(
     ensures body_does { BodyDoes state cursor line.now out.old out.new result }
     ensures keeps { Keeps state buffers.new.start buffers.new.front_len result }
 {
-    let number = cursor.number.wrapping_add(1);
-    let position = line.len();
-    let kept = kept_len(text, cursor.start_len);
     let memory = packed::pack_behind(text, cursor.memory);
-    let bare = Cursor {
-        position,
-        number,
+    let next = Cursor {
+        position: line.len(),
+        number: cursor.number.wrapping_add(1),
         start_len: 0,
         memory,
     };
     if memory.kind < 2 {
-        return Step::Took(position, 0, bare);
+        return took(0, next);
     }
     let prefix = packed::prefix_of(memory);
+    let kept = kept_len(text, cursor.start_len);
     let start_len = start_of(&mut buffers.start, buffers.front_len, prefix, kept);
-    let put = print_route(
-        &buffers.start[..start_len],
-        state,
-        prefix,
-        entry,
-        line,
-        &mut buffers.asns,
-        out,
-    );
-    match put {
-        Ok(n) => Step::Took(position, n, Cursor { start_len, ..bare }),
-        Err(why) => Step::Stops(refuse(why, number, out)),
+    let start = &buffers.start[..start_len];
+    match print_route(start, state, prefix, entry, line, &mut buffers.asns, out) {
+        Ok(written) => took(written, Cursor { start_len, ..next }),
+        Err(why) => Step::Stops(refuse(why, next.number, out)),
     }
 }
 
@@ -159,27 +162,21 @@ fn body_line(
     ensures body_does { BodyDoes state cursor line.now out.old out.new result }
     ensures keeps { Keeps state buffers.new.start buffers.new.front_len result }
 {
-    let number = cursor.number.wrapping_add(1);
-    let position = line.len();
     let next = Cursor {
-        position,
-        number,
+        position: line.len(),
+        number: cursor.number.wrapping_add(1),
         ..cursor
     };
     match text_dump_line::line_of(line, state.columns) {
-        Line::Unreadable => Step::Stops(refuse(Refusal::UnreadableLine, number, out)),
-        Line::Passed => Step::Took(position, 0, next),
-        Line::Wrapped(wrapped) => {
-            let memory = packed::pack_prefix(wrapped);
-            Step::Took(
-                position,
-                0,
-                Cursor {
-                    start_len: 0,
-                    memory,
-                    ..next
-                },
-            )
+        Line::Unreadable => Step::Stops(refuse(Refusal::UnreadableLine, next.number, out)),
+        Line::Passed => took(0, next),
+        Line::Wrapped(prefix) => {
+            let wrapped = Cursor {
+                start_len: 0,
+                memory: packed::pack_prefix(prefix),
+                ..next
+            };
+            took(0, wrapped)
         }
         Line::Route(entry, text) => route_line(buffers, state, cursor, text, entry, line, out),
     }
@@ -200,7 +197,10 @@ fn take_body_line(
     match input::line_at(input, 0, ended) {
         Front::Starved => Step::Starved,
         Front::Nothing => Step::Stops(0),
-        Front::TooLong => Step::Stops(refuse(Refusal::LineTooLong, cursor.number.wrapping_add(1), out)),
+        Front::TooLong => {
+            let number = cursor.number.wrapping_add(1);
+            Step::Stops(refuse(Refusal::LineTooLong, number, out))
+        }
         Front::Line(end) => body_line(buffers, state, cursor, &input[..end], out),
     }
 }
@@ -230,7 +230,10 @@ fn body_ran(state: State, cursor: Cursor, consumed: usize, written: usize, starv
 {
     let remembered = packed::unpack(cursor.memory);
     Ran {
-        phase: Phase::Body(state.moved(cursor.position, remembered), cursor.number),
+        phase: Phase::Body {
+            state: state.moved(cursor.position, remembered),
+            lines: cursor.number,
+        },
         consumed,
         written,
         starved,
@@ -282,7 +285,11 @@ fn take_body(
                     starved: false,
                 };
             }
-            Step::Took(bytes, n, next) => {
+            Step::Took {
+                consumed: bytes,
+                written: n,
+                next,
+            } => {
                 cursor = next;
                 consumed += bytes;
                 written += n;

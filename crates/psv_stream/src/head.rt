@@ -20,8 +20,8 @@ fn at_end(phase: Phase, out: &mut [u8; LINE]) -> usize
     ensures { Ends phase out.old out.new result }
 {
     match phase {
-        Phase::Path | Phase::Header(..) => refuse(Refusal::NoColumns, 0, out),
-        Phase::Body(..) | Phase::Stopped => 0,
+        Phase::Path | Phase::Header { .. } => refuse(Refusal::NoColumns, 0, out),
+        Phase::Body { .. } | Phase::Stopped => 0,
     }
 }
 
@@ -32,8 +32,8 @@ fn too_long(phase: Phase, out: &mut [u8; LINE]) -> usize
 {
     match phase {
         Phase::Path => refuse(Refusal::LineTooLong, 0, out),
-        Phase::Header(_, n, _) | Phase::Body(_, n) => {
-            refuse(Refusal::LineTooLong, n.wrapping_add(1), out)
+        Phase::Header { lines, .. } | Phase::Body { lines, .. } => {
+            refuse(Refusal::LineTooLong, lines.wrapping_add(1), out)
         }
         Phase::Stopped => 0,
     }
@@ -43,7 +43,15 @@ fn path_line(line: &[u8], out: &mut [u8; LINE]) -> Step<Phase>
     ensures { Does (dated (infer_timestamp line.now)) line.now out.old out.new result }
 {
     match timestamp::infer_timestamp_from_path(line) {
-        Ok(date) => Step::Took(line.len(), 0, Phase::Header(date.unwrap_or(0.0), 0, 0)),
+        Ok(date) => Step::Took {
+            consumed: line.len(),
+            written: 0,
+            next: Phase::Header {
+                timestamp: date.unwrap_or(0.0),
+                lines: 0,
+                size: 0,
+            },
+        },
         Err(InferError::NotUtf8) => Step::Stops(refuse(Refusal::PathNotUtf8, 0, out)),
     }
 }
@@ -58,11 +66,18 @@ fn put_header(out: &mut [u8; LINE]) -> usize
 }
 
 // Tries to open the listing by its first lines, as many as `number` says.
-fn header_line(t: f64, number: u64, lines: &[u8], out: &mut [u8; LINE]) -> Step<Phase>
-    ensures { Does (scanned t number lines.now (open_of t lines.now)) lines.now out.old out.new result }
+fn header_line(timestamp: f64, number: u64, text: &[u8], out: &mut [u8; LINE]) -> Step<Phase>
+    ensures { Does (scanned timestamp number text.now (open_of timestamp text.now)) text.now out.old out.new result }
 {
-    match State::open(lines, t) {
-        Ok(state) => Step::Took(lines.len(), put_header(out), Phase::Body(state, number)),
+    match State::open(text, timestamp) {
+        Ok(state) => Step::Took {
+            consumed: text.len(),
+            written: put_header(out),
+            next: Phase::Body {
+                state,
+                lines: number,
+            },
+        },
         Err(OpenError::Unreadable(line)) => Step::Stops(refuse(
             Refusal::UnreadableHeader,
             line as u64,
@@ -72,7 +87,15 @@ fn header_line(t: f64, number: u64, lines: &[u8], out: &mut [u8; LINE]) -> Step<
         Err(OpenError::NoColumns) => {
             let more = number < 64;
             if more {
-                return Step::Took(0, 0, Phase::Header(t, number, lines.len()));
+                return Step::Took {
+                    consumed: 0,
+                    written: 0,
+                    next: Phase::Header {
+                        timestamp,
+                        lines: number,
+                        size: text.len(),
+                    },
+                };
             }
             Step::Stops(refuse(Refusal::NoColumns, 0, out))
         }
@@ -86,8 +109,8 @@ pub(crate) fn is_head(phase: Phase) -> bool
     ensures { result ≡ is_head phase }
 {
     match phase {
-        Phase::Path | Phase::Header(..) => true,
-        Phase::Body(state, _) => state.turn().is_spoilt(0),
+        Phase::Path | Phase::Header { .. } => true,
+        Phase::Body { state, .. } => state.turn().is_spoilt(0),
         Phase::Stopped => false,
     }
 }
@@ -100,11 +123,17 @@ fn on_line(phase: Phase, text: &[u8], out: &mut [u8; LINE]) -> Step<Phase>
 {
     match phase {
         Phase::Path => path_line(text, out),
-        Phase::Header(t, n, _) => {
-            let number = n.wrapping_add(1);
-            header_line(t, number, text, out)
+        Phase::Header {
+            timestamp,
+            lines,
+            ..
+        } => {
+            let number = lines.wrapping_add(1);
+            header_line(timestamp, number, text, out)
         }
-        Phase::Body(_, n) => Step::Stops(refuse(Refusal::SpoiltState, n.wrapping_add(1), out)),
+        Phase::Body { lines, .. } => {
+            Step::Stops(refuse(Refusal::SpoiltState, lines.wrapping_add(1), out))
+        }
         Phase::Stopped => Step::Stops(0),
     }
 }
@@ -114,8 +143,8 @@ fn header_bytes(phase: Phase) -> usize
     ensures { result ≡ header_bytes phase }
 {
     match phase {
-        Phase::Header(_, _, size) => size,
-        Phase::Path | Phase::Body(..) | Phase::Stopped => 0,
+        Phase::Header { size, .. } => size,
+        Phase::Path | Phase::Body { .. } | Phase::Stopped => 0,
     }
 }
 
@@ -174,10 +203,14 @@ pub(crate) fn take_head(phase: Phase, input: &[u8], ended: bool, out: &mut [u8])
                     ..ran
                 };
             }
-            Step::Took(bytes, n, next) => {
+            Step::Took {
+                consumed,
+                written,
+                next,
+            } => {
                 ran.phase = next;
-                ran.consumed += bytes;
-                ran.written += n;
+                ran.consumed += consumed;
+                ran.written += written;
             }
         }
     }

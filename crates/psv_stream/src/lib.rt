@@ -33,11 +33,18 @@ const PLACES: usize = 16384;
 pub enum Phase {
     // The path line.
     Path,
-    // A line scanned for the column header: the timestamp, how many lines of the listing have come,
-    // and how many of the bytes that are not consumed are theirs.
-    Header(f64, u64, usize),
-    // A body line: the reading state, and how many lines of the listing have come.
-    Body(State, u64),
+    // A line scanned for the column header. So many lines of the listing have come, and so many of
+    // the bytes that are not consumed are theirs.
+    Header {
+        timestamp: f64,
+        lines: u64,
+        size: usize,
+    },
+    // A body line, after so many lines of the listing.
+    Body {
+        state: State,
+        lines: u64,
+    },
     // Nothing more.
     Stopped,
 }
@@ -97,13 +104,19 @@ impl From<ElementError> for Refusal {
     }
 }
 
-// What a line comes to: how many bytes are consumed, how many are written, and where the next line
-// is taken from (a Phase in the head, a Cursor in the body); or the last bytes that are written. The
-// numbers come first, so that each stands at the same place in every variant.
+// What a line comes to; P is a Phase in the head and a Cursor in the body. The numbers come first,
+// so that each stands at the same place in every variant.
 #[derive(Clone, Copy)]
 enum Step<P> {
-    Took(usize, usize, P),
+    // The line is taken, and the next one is taken from `next`.
+    Took {
+        consumed: usize,
+        written: usize,
+        next: P,
+    },
+    // So many bytes are written, and they are the last.
     Stops(usize),
+    // There is no whole line yet.
     Starved,
 }
 
@@ -137,12 +150,12 @@ pub fn run(phase: Phase, input: &[u8], ended: bool, out: &mut [u8]) -> Ran
     if is_head(head.phase) {
         return head;
     }
-    let Phase::Body(state, number) = head.phase else {
+    let Phase::Body { state, lines } = head.phase else {
         return head;
     };
     let body = run_body(
         state,
-        number,
+        lines,
         &input[head.consumed..],
         ended,
         &mut out[head.written..],

@@ -9,10 +9,10 @@ pub returns-in-Unreadable : goal.returns-in-Unreadable
 returns-in-Unreadable c = record { body_does = search six; keeps = tt }
 
 pub returns-in-Passed : goal.returns-in-Passed
-returns-in-Passed c = record { body_does = search passed; keeps = search passed_keeps }
+returns-in-Passed c = record { body_does = rw c.took.ensures (search passed); keeps = rw c.took.ensures (search passed_keeps) }
 
 pub returns-in-Wrapped : goal.returns-in-Wrapped
-returns-in-Wrapped c = record { body_does = search wrapped; keeps = search wrapped_keeps }
+returns-in-Wrapped c = record { body_does = rw c.took-in-Wrapped.ensures (search wrapped); keeps = rw c.took-in-Wrapped.ensures (search wrapped_keeps) }
 
 pub returns-in-Route : goal.returns-in-Route
 returns-in-Route c = c.route_line.ensures
