@@ -221,13 +221,15 @@ module _ (σ : State) (number : ℕ) where
   abbrev first : Packed → Cursor
   first q = record { position = σ.position; number = number; start_len = 0; memory = q }
 
-  module _ (q : Packed) (v : remembered_in q ≡ σ.remembered) where
-    pub none_taken : (s : List ℕ) (ended : Bool) (out : List ℕ) → At σ number s ended out (first q) 0 0 out
-    none_taken s ended out =
-        record { lines = rw v (subst (λ (z : State). Came (Body σ number) s ended out (Body z number) 0 0 out) (sym (moved_cursor σ)) (none_yet (Body σ number) s ended out)) }
+  pub first_phase : (q : Packed) → remembered_in q ≡ σ.remembered → phase_of σ (first q) ≡ Body σ number
+  first_phase q v = rw v (ap (λ (z : State). Body z number) (moved_cursor σ))
 
-    pub first_kept : (start : List ℕ) (n : ℕ) → Fine σ σ.remembered → Starts (front_of σ) start n σ.remembered 0 → Kept σ start n (first q)
-    first_kept start n f g = record { fine = rw v f; starts = rw v g }
+  module _ (b : Cursor) where
+    pub none_taken : phase_of σ b ≡ Body σ number → (s : List ℕ) (ended : Bool) (out : List ℕ) → At σ number s ended out b 0 0 out
+    none_taken f s ended out = record { lines = subst (λ (p : Phase). Came (Body σ number) s ended out p 0 0 out) (sym f) (none_yet (Body σ number) s ended out) }
+
+    pub first_kept : remembered_in b.memory ≡ σ.remembered → b.start_len ≡ 0 → (start : List ℕ) (n : ℕ) → Fine σ σ.remembered → Starts (front_of σ) start n σ.remembered 0 → Kept σ start n b
+    first_kept v z start n f g = record { fine = rw v f; starts = rw (v, z) g }
 
 module _ {σ : State} {number : ℕ} {s : List ℕ} {ended : Bool} {out₀ : List ℕ} {b : Cursor} {c w : ℕ} {out : List ℕ} (so_far : At σ number s ended out₀ b c w out) where
   abbrev before : Phase
@@ -274,11 +276,12 @@ module _ {σ : State} {number : ℕ} {s : List ℕ} {ended : Bool} {out₀ : Lis
       pub stops_within : w + v ≤ length out₀
       stops_within = loop.stops_within before s ended out₀ (phase_of σ b) c w out came part (step_of σ z) known v (ap (step_of σ) f)
 
-      pub stops : length part ≡ length room' → Runs before s ended out₀ (record { phase = Stopped; consumed = c; written = w + v; starved = false }) new'
-      stops h =
-          runs before s ended out₀ Stopped c (w + v) new'
+      pub stops : length part ≡ length room' → (r : Ran) → r ≡ record { phase = Stopped; consumed = c; written = w + v; starved = false } → Runs before s ended out₀ r new'
+      stops h r e =
+          rw e
+          (runs before s ended out₀ Stopped c (w + v) new'
           (loop.stops before s ended out₀ (phase_of σ b) c w out came part (step_of σ z) known v (ap (step_of σ) f) h)
-          false (λ e. absurd (false≢true e)) (λ e. inl refl)
+          false (λ g. absurd (false≢true g)) (λ g. inl refl))
 
     pub starves : z ≡ step.Starved → (r : Ran) → r ≡ record { phase = phase_of σ b; consumed = c; written = w; starved = true } → Runs before s ended out₀ r new'
     starves f r e =

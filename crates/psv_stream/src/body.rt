@@ -4,6 +4,7 @@ ghost use Rattle.scan.specs.Lines.{lines};
 ghost use Rattle.text_dump_line.specs.Line.{line_of};
 ghost use Rattle.text_dump_line.specs.declared.Line.TheVariants as read;
 ghost use Rattle.text_dump.specs.declared.Remembered.TheVariants as remembered;
+ghost use Rattle.packed.specs.Packed.{remembered_in};
 ghost use Rattle.psv_stream.specs.Refusal.{number};
 ghost use Rattle.psv_stream.specs.Run.{Runs};
 ghost use Rattle.psv_stream.specs.Parts.{front_of, Fine, Starts, kept_len, Kept, BodyDoes, Keeps, phase_of, BodySteps, IfRoom};
@@ -11,7 +12,7 @@ ghost use Rattle.psv_stream.specs.declared.Phase.TheVariants as phase;
 ghost use Rattle.psv_stream.specs.declared.Step.TheVariants as step;
 
 use crate::route::print_route;
-use crate::{LINE, PLACES, Phase, Ran, Refusal, Step, refuse};
+use crate::{LINE, PLACES, Phase, Ran, Refusal, Step, refuse, stopped};
 use input::Front;
 use network::NetworkPrefix;
 use output::Writer;
@@ -32,6 +33,23 @@ struct Cursor {
     start_len: usize,
     // What the reading state remembers, packed.
     memory: Packed,
+}
+
+impl Cursor {
+    // Before the first line.
+    #[tactic(auto, using(crate::proofs::Bodies::first_phase))]
+    fn new(state: State, number: u64) -> Cursor
+        ensures phase { phase_of state result ≡ phase.Body state number }
+        ensures remembers { remembered_in result.memory ≡ state.remembered }
+        ensures none_cached { result.start_len ≡ 0 }
+    {
+        Cursor {
+            position: state.position,
+            number,
+            start_len: 0,
+            memory: packed::pack(state.remembered),
+        }
+    }
 }
 
 // The longest start of a line that is cached.
@@ -256,13 +274,7 @@ fn take_body(
     requires starts { Starts (front_of state) buffers.old.start buffers.old.front_len state.remembered 0 }
     ensures { Runs (phase.Body state number) input.now ended out.old result out.new }
 {
-    let memory = packed::pack(state.remembered);
-    let mut cursor = Cursor {
-        position: state.position,
-        number,
-        start_len: 0,
-        memory,
-    };
+    let mut cursor = Cursor::new(state, number);
     let mut consumed = 0;
     let mut written = 0;
     while let Some(step) = next_body_line(
@@ -274,17 +286,8 @@ fn take_body(
         &mut out[written..],
     ) {
         match step {
-            Step::Starved => {
-                return body_ran(state, cursor, consumed, written, true);
-            }
-            Step::Stops(n) => {
-                return Ran {
-                    phase: Phase::Stopped,
-                    consumed,
-                    written: written + n,
-                    starved: false,
-                };
-            }
+            Step::Starved => return body_ran(state, cursor, consumed, written, true),
+            Step::Stops(n) => return stopped(consumed, written + n),
             Step::Took {
                 consumed: bytes,
                 written: n,

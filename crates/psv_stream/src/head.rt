@@ -8,7 +8,7 @@ ghost use Rattle.psv_stream.specs.Refusal.{number};
 ghost use Rattle.psv_stream.specs.Run.{header_bytes};
 ghost use Rattle.psv_stream.specs.Parts.{acts, is_head, Puts, Ends, TooLong, Does, Steps, IfRoom, Heads};
 
-use crate::{LINE, Phase, Ran, Refusal, Step, refuse};
+use crate::{LINE, Phase, Ran, Refusal, Step, refuse, stopped};
 use input::Front;
 use output::Writer;
 use text_dump::{OpenError, State};
@@ -196,13 +196,7 @@ pub(crate) fn take_head(phase: Phase, input: &[u8], ended: bool, out: &mut [u8])
                     ..ran
                 };
             }
-            Step::Stops(n) => {
-                return Ran {
-                    phase: Phase::Stopped,
-                    written: ran.written + n,
-                    ..ran
-                };
-            }
+            Step::Stops(n) => return stopped(ran.consumed, ran.written + n),
             Step::Took {
                 consumed,
                 written,

@@ -6,11 +6,12 @@ mod body;
 mod head;
 mod route;
 
-ghost use Rattle.std.specs.Prelude.{◌≡◌};
+ghost use Rattle.std.specs.Prelude.{◌≡◌, false};
 ghost use Rattle.psv_stream.specs.Printed.{refusal_text};
 ghost use Rattle.psv_stream.specs.Refusal.{number, of_asns, of_element};
 ghost use Rattle.psv_stream.specs.Run.{Runs};
 ghost use Rattle.psv_stream.specs.Parts.{Puts};
+ghost use Rattle.psv_stream.specs.declared.Phase.TheVariants as phase;
 
 use crate::body::run_body;
 use crate::head::{is_head, take_head};
@@ -130,6 +131,20 @@ pub struct Ran {
     pub starved: bool,
 }
 
+// A run after which nothing more is to come.
+#[inline(always)]
+fn stopped(consumed: usize, written: usize) -> Ran
+    ensures { result ≡ record { phase = phase.Stopped; consumed = consumed; written = written; starved = false } }
+{
+    Ran {
+        phase: Phase::Stopped,
+        consumed,
+        written,
+        starved: false,
+    }
+}
+
+// Prints a refusal: its length.
 fn refuse(why: Refusal, line: u64, out: &mut [u8; LINE]) -> usize
     ensures { Puts (refusal_text (number why) line) out.old out.new result }
 {
