@@ -28,13 +28,13 @@ use Rattle.packed.specs.Packed.{remembered_in}
 use Rattle.packed.specs.declared.Packed.{Packed}
 use Rattle.psv_stream.specs.Printed.{refusal_text, refuse, printed_element, answered, after, next_of}
 use Rattle.psv_stream.specs.Run.{Runs}
-use Rattle.psv_stream.specs.Parts.{Puts, acts, Steps, Came, element_for, routed, PutRoute, front_of, Begins, kept_len, state_of, phase_of, step_of, Fine, Kept, Keeps, BodyDoes, BodySteps}
+use Rattle.psv_stream.specs.Parts.{Puts, acts, Steps, Came, element_for, routed, PutRoute, front_of, Starts, kept_len, state_of, phase_of, step_of, Fine, Kept, Keeps, BodyDoes, BodySteps}
 use Rattle.psv_stream.specs.declared.Phase.{Phase}
 use Rattle.psv_stream.specs.declared.Phase.TheVariants.{Body, Stopped}
 use Rattle.psv_stream.specs.declared.Ran.{Ran}
 use Rattle.psv_stream.specs.Refusal.{number as number_of}
 use Rattle.psv_stream.specs.declared.Refusal.{Refusal}
-use Rattle.psv_stream.specs.declared.body.Place.{Place}
+use Rattle.psv_stream.specs.declared.body.Cursor.{Cursor}
 use Rattle.psv_stream.specs.declared.Step.{Step}
 use Rattle.psv_stream.specs.declared.Step.TheVariants as step
 use Rattle.psv_stream.proofs.Texts.{puts_none}
@@ -42,14 +42,14 @@ use Rattle.psv_stream.proofs.Lines.{refused_does}
 use Rattle.psv_stream.proofs.Steps as steps
 use Rattle.psv_stream.proofs.Runs as loop
 use Rattle.psv_stream.proofs.Runs.{left, room, new, none_yet, runs}
-use Rattle.psv_stream.proofs.Routes.{none_begun, text_keeps}
+use Rattle.psv_stream.proofs.Routes.{none_started, text_keeps}
 
 -- what a line does
-module _ (σ : State) (b : Place) (start : List ℕ) (n : ℕ) (kept : Kept σ start n b) (l : List ℕ) (one : lines l ≡ l ∷ []) where
+module _ (σ : State) (b : Cursor) (start : List ℕ) (n : ℕ) (kept : Kept σ start n b) (l : List ℕ) (one : lines l ≡ l ∷ []) where
   abbrev here : State
   here = state_of σ b
 
-  abbrev there : ℕ → Packed → ℕ → Place
+  abbrev there : ℕ → Packed → ℕ → Cursor
   there j q k = record { position = j; number = after b.number; start_len = k; memory = q }
 
   -- what is remembered is in the state, too
@@ -77,7 +77,7 @@ module _ (σ : State) (b : Place) (start : List ℕ) (n : ℕ) (kept : Kept σ s
         (passed_line here l 16384 one fine_here y c h ∙ ap (λ (m : Plain NetworkPrefix). (end, moved σ (record { at = length l; remembered = m }))) same)
 
     pub passed_keeps : y ≡ read.Passed → Kept σ start n (there (length l) b.memory b.start_len)
-    passed_keeps h = record { fine = kept.fine; begins = kept.begins }
+    passed_keeps h = record { fine = kept.fine; starts = kept.starts }
 
     module _ (p : NetworkPrefix) (h : y ≡ read.Wrapped p) (q : Packed) (v : remembered_in q ≡ remembered.Valid p) where
       pub wrapped : (out : List ℕ) → BodyDoes σ b l out out (step.Took (length l) 0 (there (length l) q 0))
@@ -87,7 +87,7 @@ module _ (σ : State) (b : Place) (start : List ℕ) (n : ℕ) (kept : Kept σ s
       wrapped_keeps =
           record {
             fine = rw v (fine_wrapped here (length l) fine_here l y c 0 0 p h);
-            begins = none_begun start n (remembered_in b.memory) b.start_len (remembered_in q) (front_of σ) kept.begins;
+            starts = none_started start n (remembered_in b.memory) b.start_len (remembered_in q) (front_of σ) kept.starts;
           }
 
     -- a route's line is of that line
@@ -107,8 +107,8 @@ module _ (σ : State) (b : Place) (start : List ℕ) (n : ℕ) (kept : Kept σ s
         ap (λ (z : Plain NetworkPrefix). spoilt (moved σ (record { at = 0; remembered = z })) 0) (sym (plain_stored (plain m)))
         ∙ fine_route here (length l) fine_here l (read.Route e x) c 0 0 x e refl m brought
 
-    begun_behind : (k : ℕ) → k ≡ kept_len x b.start_len → Begins (front_of σ) start n m k
-    begun_behind k f = rw f (text_keeps (front_of σ) start n (remembered_in b.memory) b.start_len kept.begins x m g)
+    started_after : (k : ℕ) → k ≡ kept_len x b.start_len → Starts (front_of σ) start n m k
+    started_after k f = rw f (text_keeps (front_of σ) start n (remembered_in b.memory) b.start_len kept.starts x m g)
 
     -- without a valid prefix
     module _ (o : (p : NetworkPrefix) → m ≡ remembered.Valid p → ⊥) where
@@ -116,17 +116,17 @@ module _ (σ : State) (b : Place) (start : List ℕ) (n : ℕ) (kept : Kept σ s
       bare = moves q 0 (other_route here l 16384 one fine_here (read.Route e x) c x e refl m brought o)
 
       pub bare_keeps : Kept σ start n (there (length l) q 0)
-      bare_keeps = record { fine = fine_behind; begins = none_begun start n (remembered_in b.memory) b.start_len m (front_of σ) kept.begins }
+      bare_keeps = record { fine = fine_behind; starts = none_started start n (remembered_in b.memory) b.start_len m (front_of σ) kept.starts }
 
 -- a route's line under a valid prefix p, with the prefix text x; q remembers p
-pub record Under (σ : State) (b : Place) (start : List ℕ) (n : ℕ) (l : List ℕ) (x : PrefixText) (e : RouteEntry) (q : Packed) (p : NetworkPrefix) : Type 0 where
+pub record Under (σ : State) (b : Cursor) (start : List ℕ) (n : ℕ) (l : List ℕ) (x : PrefixText) (e : RouteEntry) (q : Packed) (p : NetworkPrefix) : Type 0 where
   pub kept : Kept σ start n b
   pub one : lines l ≡ l ∷ []
   pub line : read.Route e x ≡ line_of σ.columns l
   pub memory : plain (remembered_in q) ≡ replace (text_of x) (plain (remembered_in b.memory))
   pub prefix : remembered_in q ≡ remembered.Valid p
 
-module _ {σ : State} {b : Place} {start : List ℕ} {n : ℕ} {l : List ℕ} {x : PrefixText} {e : RouteEntry} {q : Packed} {p : NetworkPrefix} (u : Under σ b start n l x e q p) where
+module _ {σ : State} {b : Cursor} {start : List ℕ} {n : ℕ} {l : List ℕ} {x : PrefixText} {e : RouteEntry} {q : Packed} {p : NetworkPrefix} (u : Under σ b start n l x e q p) where
   fine_after : Fine σ (remembered_in q)
   fine_after = fine_behind σ b start n u.kept l u.one x e u.line q u.memory
 
@@ -139,8 +139,8 @@ module _ {σ : State} {b : Place} {start : List ℕ} {n : ℕ} {l : List ℕ} {x
   abbrev behind : State
   behind = moved σ (record { at = length l; remembered = valid p })
 
-  abbrev next_place : ℕ → Place
-  next_place k = record { position = length l; number = after b.number; start_len = k; memory = q }
+  abbrev next_cursor : ℕ → Cursor
+  next_cursor k = record { position = length l; number = after b.number; start_len = k; memory = q }
 
   under : replace (text_of x) (plain before_it.remembered) ≡ valid p
   under = sym (brought σ b start n u.kept l u.one x e u.line q u.memory) ∙ ap plain u.prefix
@@ -158,7 +158,7 @@ module _ {σ : State} {b : Place} {start : List ℕ} {n : ℕ} {l : List ℕ} {x
       go false f = rw (long_route before_it l 16384 u.one not_spoilt (read.Route e x) u.line x e refl p under (leb-false _ 16384 f))
 
   module _ (out new : List ℕ) (r : Result ℕ Refusal) (put : PutRoute σ p e (asns_of (path_of e l)) out new r) where
-    pub route_wrote : (w k : ℕ) → r ≡ Ok w → BodyDoes σ b l out new (step.Took (length l) w (next_place k))
+    pub route_wrote : (w k : ℕ) → r ≡ Ok w → BodyDoes σ b l out new (step.Took (length l) w (next_cursor k))
     route_wrote w k f =
         let h : PutRoute σ p e (asns_of (path_of e l)) out new (Ok w) = rw f at put in
         rw (acts_so, h.0 (after b.number) behind) (h.1, rw u.prefix, omega arith)
@@ -169,24 +169,24 @@ module _ {σ : State} {b : Place} {start : List ℕ} {n : ℕ} {l : List ℕ} {x
         refused_does l out (acts (phase_of σ b) l) (number_of z) (after b.number) (acts_so ∙ h.0 (after b.number) behind) newer w (rw h.1 at d)
 
   -- behind what its line begins with
-  module _ (k : ℕ) (short : k ≡ kept_len x b.start_len) (start' : List ℕ) (k' : ℕ) (printed : (f : List ℕ) → Begins f start n (remembered.Valid p) k → Begins f start' n (remembered.Valid p) k') where
-    begun_there : Begins (front_of σ) start' n (remembered.Valid p) k'
-    begun_there = printed (front_of σ) (rw u.prefix at (begun_behind σ b start n u.kept l u.one x e u.line q u.memory k short))
+  module _ (k : ℕ) (short : k ≡ kept_len x b.start_len) (start' : List ℕ) (k' : ℕ) (printed : (f : List ℕ) → Starts f start n (remembered.Valid p) k → Starts f start' n (remembered.Valid p) k') where
+    started_there : Starts (front_of σ) start' n (remembered.Valid p) k'
+    started_there = printed (front_of σ) (rw u.prefix at (started_after σ b start n u.kept l u.one x e u.line q u.memory k short))
 
-    pub begin_inside : k' ≤ length start'
-    begin_inside = begun_there.inside
+    pub start_inside : k' ≤ length start'
+    start_inside = started_there.inside
 
-    pub begin_size : k' ≡ length (take k' start')
-    begin_size = rw length-take (omega (arith, begin_inside))
+    pub start_size : k' ≡ length (take k' start')
+    start_size = rw length-take (omega (arith, start_inside))
 
-    pub begin_is : 0 < length (take k' start') → take k' start' ≡ front_of σ ++ between_text p
-    begin_is h = begun_there.is_begin p refl (omega (arith, length-take k' start'))
+    pub start_is : 0 < length (take k' start') → take k' start' ≡ front_of σ ++ between_text p
+    start_is h = started_there.is_start p refl (omega (arith, length-take k' start'))
 
-    pub route_keeps : Kept σ start' n (next_place k')
-    route_keeps = record { fine = fine_after; begins = rw u.prefix begun_there }
+    pub route_keeps : Kept σ start' n (next_cursor k')
+    route_keeps = record { fine = fine_after; starts = rw u.prefix started_there }
 
 -- the line that comes next
-module _ (σ : State) (b : Place) (s : List ℕ) (ended : Bool) (f : Front) (known : Fronts s 0 ended f) where
+module _ (σ : State) (b : Cursor) (s : List ℕ) (ended : Bool) (f : Front) (known : Fronts s 0 ended f) where
   pub line_one : (e : ℕ) → f ≡ front.Line e → lines (take e s) ≡ take e s ∷ []
   line_one e g =
       let w : Fronts s 0 ended (front.Line e) = rw g at known in
@@ -209,27 +209,29 @@ module _ (σ : State) (b : Place) (s : List ℕ) (ended : Bool) (f : Front) (kno
       → Steps (phase_of σ b) s ended out new (step_of σ (step.Stops w))
   long_steps g out new w d = steps.long_steps (phase_of σ b) s ended 0 refl f known out new w g d
 
-  pub line_steps : (e : ℕ) → f ≡ front.Line e → (out new : List ℕ) (r : Step Place) → BodyDoes σ b (take e s) out new r
+  pub line_steps : (e : ℕ) → f ≡ front.Line e → (out new : List ℕ) (r : Step Cursor) → BodyDoes σ b (take e s) out new r
       → Steps (phase_of σ b) s ended out new (step_of σ r)
   line_steps e g out new r = steps.line_steps (phase_of σ b) s ended 0 refl f known out new (step_of σ r) e g
 
 -- the loop: where its lines have come to
-pub record At (σ : State) (number : ℕ) (s : List ℕ) (ended : Bool) (out₀ : List ℕ) (b : Place) (c w : ℕ) (out : List ℕ) : Type 0 where
+pub record At (σ : State) (number : ℕ) (s : List ℕ) (ended : Bool) (out₀ : List ℕ) (b : Cursor) (c w : ℕ) (out : List ℕ) : Type 0 where
   pub lines : Came (Body σ number) s ended out₀ (phase_of σ b) c w out
 
 module _ (σ : State) (number : ℕ) where
-  abbrev first : Packed → Place
+  abbrev first : Packed → Cursor
   first q = record { position = σ.position; number = number; start_len = 0; memory = q }
 
-  module _ (q : Packed) (v : remembered_in q ≡ σ.remembered) where
-    pub none_taken : (s : List ℕ) (ended : Bool) (out : List ℕ) → At σ number s ended out (first q) 0 0 out
-    none_taken s ended out =
-        record { lines = rw v (subst (λ (z : State). Came (Body σ number) s ended out (Body z number) 0 0 out) (sym (moved_cursor σ)) (none_yet (Body σ number) s ended out)) }
+  pub first_phase : (q : Packed) → remembered_in q ≡ σ.remembered → phase_of σ (first q) ≡ Body σ number
+  first_phase q v = rw v (ap (λ (z : State). Body z number) (moved_cursor σ))
 
-    pub first_kept : (start : List ℕ) (n : ℕ) → Fine σ σ.remembered → Begins (front_of σ) start n σ.remembered 0 → Kept σ start n (first q)
-    first_kept start n f g = record { fine = rw v f; begins = rw v g }
+  module _ (b : Cursor) where
+    pub none_taken : phase_of σ b ≡ Body σ number → (s : List ℕ) (ended : Bool) (out : List ℕ) → At σ number s ended out b 0 0 out
+    none_taken f s ended out = record { lines = subst (λ (p : Phase). Came (Body σ number) s ended out p 0 0 out) (sym f) (none_yet (Body σ number) s ended out) }
 
-module _ {σ : State} {number : ℕ} {s : List ℕ} {ended : Bool} {out₀ : List ℕ} {b : Place} {c w : ℕ} {out : List ℕ} (so_far : At σ number s ended out₀ b c w out) where
+    pub first_kept : remembered_in b.memory ≡ σ.remembered → b.start_len ≡ 0 → (start : List ℕ) (n : ℕ) → Fine σ σ.remembered → Starts (front_of σ) start n σ.remembered 0 → Kept σ start n b
+    first_kept v z start n f g = record { fine = rw v f; starts = rw (v, z) g }
+
+module _ {σ : State} {number : ℕ} {s : List ℕ} {ended : Bool} {out₀ : List ℕ} {b : Cursor} {c w : ℕ} {out : List ℕ} (so_far : At σ number s ended out₀ b c w out) where
   abbrev before : Phase
   before = Body σ number
 
@@ -247,14 +249,14 @@ module _ {σ : State} {number : ℕ} {s : List ℕ} {ended : Bool} {out₀ : Lis
       → Runs before s ended out₀ r (new before s ended out₀ (phase_of σ b) c w out came part)
   full part none r e = rw e (loop.full before s ended out₀ (phase_of σ b) c w out came part none)
 
-  module _ (part : List ℕ) (z : Step Place) (known : BodySteps σ b left' ended room' part z) where
+  module _ (part : List ℕ) (z : Step Cursor) (known : BodySteps σ b left' ended room' part z) where
     abbrev new' : List ℕ
     new' = new before s ended out₀ (phase_of σ b) c w out came part
 
     pub same_new : length part ≡ length room' → length new' ≡ length out₀
     same_new = loop.same_new before s ended out₀ (phase_of σ b) c w out came part
 
-    module _ (d v : ℕ) (q : Place) (f : z ≡ step.Took d v q) where
+    module _ (d v : ℕ) (q : Cursor) (f : z ≡ step.Took d v q) where
       pub inside : c + d ≤ length s
       inside = loop.inside before s ended out₀ (phase_of σ b) c w out came part (step_of σ z) known d v (phase_of σ q) (ap (step_of σ) f)
 
@@ -274,11 +276,12 @@ module _ {σ : State} {number : ℕ} {s : List ℕ} {ended : Bool} {out₀ : Lis
       pub stops_within : w + v ≤ length out₀
       stops_within = loop.stops_within before s ended out₀ (phase_of σ b) c w out came part (step_of σ z) known v (ap (step_of σ) f)
 
-      pub stops : length part ≡ length room' → Runs before s ended out₀ (record { phase = Stopped; consumed = c; written = w + v; starved = false }) new'
-      stops h =
-          runs before s ended out₀ Stopped c (w + v) new'
+      pub stops : length part ≡ length room' → (r : Ran) → r ≡ record { phase = Stopped; consumed = c; written = w + v; starved = false } → Runs before s ended out₀ r new'
+      stops h r e =
+          rw e
+          (runs before s ended out₀ Stopped c (w + v) new'
           (loop.stops before s ended out₀ (phase_of σ b) c w out came part (step_of σ z) known v (ap (step_of σ) f) h)
-          false (λ e. absurd (false≢true e)) (λ e. inl refl)
+          false (λ g. absurd (false≢true g)) (λ g. inl refl))
 
     pub starves : z ≡ step.Starved → (r : Ran) → r ≡ record { phase = phase_of σ b; consumed = c; written = w; starved = true } → Runs before s ended out₀ r new'
     starves f r e =
@@ -288,7 +291,7 @@ module _ {σ : State} {number : ℕ} {s : List ℕ} {ended : Bool} {out₀ : Lis
         true (λ g. loop.starved before s ended out₀ (phase_of σ b) c w out came part (step_of σ z) known (ap (step_of σ) f)) (λ g. absurd (false≢true (sym g))))
 
 -- where it ends
-pub ran : (σ : State) (b : Place) (m : Remembered) → m ≡ remembered_in b.memory → (τ : State) → τ ≡ moved σ (record { at = b.position; remembered = plain m }) → (c w : ℕ) (z : Bool)
+pub ran : (σ : State) (b : Cursor) (m : Remembered) → m ≡ remembered_in b.memory → (τ : State) → τ ≡ moved σ (record { at = b.position; remembered = plain m }) → (c w : ℕ) (z : Bool)
     → ◌≡◌ {A = Ran} (record { phase = Body τ b.number; consumed = c; written = w; starved = z }) (record { phase = phase_of σ b; consumed = c; written = w; starved = z })
 ran σ b m f τ e c w z = rw (e, f)
 

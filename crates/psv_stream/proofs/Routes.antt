@@ -32,7 +32,7 @@ use Rattle.text_dump.specs.declared.Remembered.{Remembered}
 use Rattle.text_dump.specs.declared.Remembered.TheVariants as remembered
 use Rattle.text_dump.specs.declared.State.{State}
 use Rattle.text_dump.proofs.StateLaws.{stored_plain, first, second}
-use Rattle.psv_stream.specs.Parts.{PutElement, element_for, PutRoute, PutCopy, copied_text, Copies, front_of, Fine, Begins, kept_len}
+use Rattle.psv_stream.specs.Parts.{PutElement, element_for, PutRoute, PutCopy, copied_text, Copies, front_of, Fine, Starts, kept_len}
 use Rattle.psv_stream.specs.Refusal.{of_asns, of_element}
 use Rattle.psv_stream.specs.declared.Refusal.{Refusal}
 use Rattle.std.specs.Result.{IsErrAnd, result_unwrap_or}
@@ -114,28 +114,28 @@ module _ (σ : State) (p : NetworkPrefix) (e : RouteEntry) (ns : List ℕ) where
 
 -- from texts: of the element only its attributes are looked at
 module _ (σ : State) (p : NetworkPrefix) (e : RouteEntry) where
-  module _ (begin path : List ℕ) (starts : begin ≡ front_of σ ++ between_text p) (o : Option Asn) (y : Element) (made : y ≡ element_of σ p e 0 o) where
+  module _ (start path : List ℕ) (starts : start ≡ front_of σ ++ between_text p) (o : Option Asn) (y : Element) (made : y ≡ element_of σ p e 0 o) where
     abbrev element' : Element
     element' = element_for σ p e (asns_of path)
 
-    copied_text_lem : copied_text begin path y ≡ psv_text element' (asns_of path)
+    copied_text_lem : copied_text start path y ≡ psv_text element' (asns_of path)
     unfolding texts_line
     copied_text_lem =
         let same : attributes_text y ≡ attributes_text element' =
         attributes_same y element' (ap (λ (z : Element). z.origin) made) (ap (λ (z : Element). z.next_hop) made) (ap (λ (z : Element). z.local_pref) made) (ap (λ (z : Element). z.metric) made) in
         rw same
-        (copied_line element' (asns_of path) begin (sequence_text (asns_of path)) (asn_text (origin_asn (asns_of path))) (asns_of path) starts refl (sym (take-length (asns_of path))) refl)
+        (copied_line element' (asns_of path) start (sequence_text (asns_of path)) (asn_text (origin_asn (asns_of path))) (asns_of path) starts refl (sym (take-length (asns_of path))) refl)
 
-  pub copied : (begin path : List ℕ) → (0 < length begin → begin ≡ front_of σ ++ between_text p) → (length begin ≡ 0 → ⊥) → (o : Option Asn) (y : Element) → y ≡ element_of σ p e 0 o
-      → Fine σ (remembered.Valid p) → (out new : List ℕ) (r : Option ℕ) → Copies begin path y out new r → PutCopy σ p e (asns_of path) out new r
-  copied begin path starts some o y made fine out new = go
+  pub copied : (start path : List ℕ) → (0 < length start → start ≡ front_of σ ++ between_text p) → (length start ≡ 0 → ⊥) → (o : Option Asn) (y : Element) → y ≡ element_of σ p e 0 o
+      → Fine σ (remembered.Valid p) → (out new : List ℕ) (r : Option ℕ) → Copies start path y out new r → PutCopy σ p e (asns_of path) out new r
+  copied start path starts some o y made fine out new = go
     where
-      text : copied_text begin path y ≡ psv_text (element_for σ p e (asns_of path)) (asns_of path)
-      text = copied_text_lem begin path (starts (omega (arith, some))) o y made
+      text : copied_text start path y ≡ psv_text (element_for σ p e (asns_of path)) (asns_of path)
+      text = copied_text_lem start path (starts (omega (arith, some))) o y made
 
-      go : (r : Option ℕ) → Copies begin path y out new r → PutCopy σ p e (asns_of path) out new r
+      go : (r : Option ℕ) → Copies start path y out new r → PutCopy σ p e (asns_of path) out new r
       go (Some w) h =
-          let short : leb (length (psv_text (element_for σ p e (asns_of path)) (asns_of path))) 65536 ≡ true = rw text at (le-leb (length (copied_text begin path y)) 65536 h.1) in
+          let short : leb (length (psv_text (element_for σ p e (asns_of path)) (asns_of path))) 65536 ≡ true = rw text at (le-leb (length (copied_text start path y)) 65536 h.1) in
           (λ n u. rw (le-leb (length (asns_of path)) 16384 h.0, fine_element σ p e (asns_of path) fine, short), rw text at h.2)
       go None h = h
 
@@ -150,11 +150,11 @@ module _ (σ : State) (p : NetworkPrefix) (e : RouteEntry) where
 
 -- what lines begin with
 module _ (start : List ℕ) (n : ℕ) (m : Remembered) (k : ℕ) where
-  pub none_begun : (l : Remembered) (f : List ℕ) → Begins f start n m k → Begins f start n l 0
-  none_begun l f b = record { front_inside = b.front_inside; is_front = b.is_front; inside = omega arith; is_begin = λ q e h. absurd (omega arith) }
+  pub none_started : (l : Remembered) (f : List ℕ) → Starts f start n m k → Starts f start n l 0
+  none_started l f b = record { front_inside = b.front_inside; is_front = b.is_front; inside = omega arith; is_start = λ q e h. absurd (omega arith) }
 
   -- writing behind the front
-  module _ (t new : List ℕ) (r : ℕ) (w : Written t start n new r) (f : List ℕ) (b : Begins f start n m k) where
+  module _ (t new : List ℕ) (r : ℕ) (w : Written t start n new r) (f : List ℕ) (b : Starts f start n m k) where
     same_front : take n new ≡ take n start
     unfolding overwrite
     same_front =
@@ -164,59 +164,59 @@ module _ (start : List ℕ) (n : ℕ) (m : Remembered) (k : ℕ) where
     same_size : length new ≡ length start
     same_size = ap length w.list ∙ length_overwrite start n t
 
-    pub none_written : (l : Remembered) → Begins f new n l 0
+    pub none_written : (l : Remembered) → Starts f new n l 0
     none_written l =
-        record { front_inside = omega (arith, same_size, b.front_inside); is_front = λ h. same_front ∙ b.is_front h; inside = omega arith; is_begin = λ q e h. absurd (omega arith) }
+        record { front_inside = omega (arith, same_size, b.front_inside); is_front = λ h. same_front ∙ b.is_front h; inside = omega arith; is_start = λ q e h. absurd (omega arith) }
 
     all_fits : r < length start → n + length t ≤ length start
     unfolding room
     all_fits h = omega (arith, w.place, b.front_inside)
 
-    begin_written : (n ≡ 0 → ⊥) → (h : r < length start) → take r new ≡ f ++ t
-    begin_written some h =
+    start_written : (n ≡ 0 → ⊥) → (h : r < length start) → take r new ≡ f ++ t
+    start_written some h =
         let z = all_written t start new n r w (all_fits h) in
         rw z.0
         (take_at (take n start ++ t) (drop (n + length t) start) r (rw (length-append, length-take) (omega (arith, z.1, b.front_inside)))
         ∙ ap (λ (x : List ℕ). x ++ t) (b.is_front (omega (arith, some))))
 
-pub begun : (start new : List ℕ) (n k r : ℕ) (p : NetworkPrefix) → Written (between_text p) start n new r → (n ≡ 0 → ⊥) → r < length new
-    → (f : List ℕ) → Begins f start n (remembered.Valid p) k → Begins f new n (remembered.Valid p) r
-begun start new n k r p w some h f b =
+pub started : (start new : List ℕ) (n k r : ℕ) (p : NetworkPrefix) → Written (between_text p) start n new r → (n ≡ 0 → ⊥) → r < length new
+    → (f : List ℕ) → Starts f start n (remembered.Valid p) k → Starts f new n (remembered.Valid p) r
+started start new n k r p w some h f b =
     let z = none_written start n (remembered.Valid p) k (between_text p) new r w f b (remembered.Valid p) in
     record {
       front_inside = z.front_inside;
       is_front = z.is_front;
       inside = omega arith;
-      is_begin = λ q e i.
+      is_start = λ q e i.
           let same : p ≡ q = cc in
-          begin_written start n (remembered.Valid p) k (between_text p) new r w f b some (omega (arith, same_size start n (remembered.Valid p) k (between_text p) new r w f b)) ∙ ap (λ (x : NetworkPrefix). f ++ between_text x) same;
+          start_written start n (remembered.Valid p) k (between_text p) new r w f b some (omega (arith, same_size start n (remembered.Valid p) k (between_text p) new r w f b)) ∙ ap (λ (x : NetworkPrefix). f ++ between_text x) same;
     }
 
-pub not_begun : (start new : List ℕ) (n k r : ℕ) (p : NetworkPrefix) → Written (between_text p) start n new r → (f : List ℕ) → Begins f start n (remembered.Valid p) k
-    → Begins f new n (remembered.Valid p) 0
-not_begun start new n k r p w f b = none_written start n (remembered.Valid p) k (between_text p) new r w f b (remembered.Valid p)
+pub not_started : (start new : List ℕ) (n k r : ℕ) (p : NetworkPrefix) → Written (between_text p) start n new r → (f : List ℕ) → Starts f start n (remembered.Valid p) k
+    → Starts f new n (remembered.Valid p) 0
+not_started start new n k r p w f b = none_written start n (remembered.Valid p) k (between_text p) new r w f b (remembered.Valid p)
 
 -- from line to line
-pub text_keeps : (f start : List ℕ) (n : ℕ) (m : Remembered) (k : ℕ) → Begins f start n m k → (x : PrefixText) (l : Remembered) → plain l ≡ replace (text_of x) (plain m)
-    → Begins f start n l (kept_len x k)
-text_keeps f start n m k b prefix.Blank l g = subst (λ (z : Remembered). Begins f start n z k) (sym (sym (stored_plain l) ∙ ap stored g ∙ stored_plain m)) b
-text_keeps f start n m k b prefix.Invalid l g = none_begun start n m k l f b
-text_keeps f start n m k b (prefix.Valid p) l g = none_begun start n m k l f b
+pub text_keeps : (f start : List ℕ) (n : ℕ) (m : Remembered) (k : ℕ) → Starts f start n m k → (x : PrefixText) (l : Remembered) → plain l ≡ replace (text_of x) (plain m)
+    → Starts f start n l (kept_len x k)
+text_keeps f start n m k b prefix.Blank l g = subst (λ (z : Remembered). Starts f start n z k) (sym (sym (stored_plain l) ∙ ap stored g ∙ stored_plain m)) b
+text_keeps f start n m k b prefix.Invalid l g = none_started start n m k l f b
+text_keeps f start n m k b (prefix.Valid p) l g = none_started start n m k l f b
 
 -- the front printed
 module _ (σ : State) (m : Remembered) (out : List ℕ) where
-  front_put : (r : Result ℕ PutError) (new : List ℕ) → (r ≡ answer (front_of σ) out) × (new ≡ front (front_of σ) out) → (n : ℕ) → r ≡ Ok n → Begins (front_of σ) new n m 0
+  front_put : (r : Result ℕ PutError) (new : List ℕ) → (r ≡ answer (front_of σ) out) × (new ≡ front (front_of σ) out) → (n : ℕ) → r ≡ Ok n → Starts (front_of σ) new n m 0
   front_put r new told n e =
       let z : Told (front_of σ) out new (Ok n) = rw e at (told_by (front_of σ) out new r told) in
       record {
         front_inside = rw (z.2, length-append) (omega (arith, z.0));
         is_front = λ i. rw z.2 (take_at (front_of σ) (drop (length (front_of σ)) out) n (sym z.0));
         inside = omega arith;
-        is_begin = λ q f i. absurd (omega arith);
+        is_start = λ q f i. absurd (omega arith);
       }
 
   pub front_or : (r : Result ℕ PutError) (new : List ℕ) → (r ≡ answer (front_of σ) out) × (new ≡ front (front_of σ) out) → (n : ℕ) → n ≡ result_unwrap_or r 0
-      → Begins (front_of σ) new n m 0
+      → Starts (front_of σ) new n m 0
   front_or (Ok k) new told n e = front_put (Ok k) new told n (ap Ok (sym e))
   front_or (Err z) new told n e =
-      rw e (record { front_inside = omega arith; is_front = λ h. absurd (omega arith); inside = omega arith; is_begin = λ q f h. absurd (omega arith) })
+      rw e (record { front_inside = omega arith; is_front = λ h. absurd (omega arith); inside = omega arith; is_start = λ q f h. absurd (omega arith) })

@@ -175,13 +175,14 @@ module _ (p₀ : Phase) (s : List ℕ) (ended : Bool) (out₀ : List ℕ) (r : R
         }
 
     pub head_stops : (v : ℕ) → z ≡ step.Stops v → length part ≡ length (room p₀ s ended out₀ r.phase r.consumed r.written out came)
-        → Heads p₀ s ended out₀ (record { phase = Stopped; consumed = r.consumed; written = r.written + v; starved = r.starved }) after
-    head_stops v f h =
-        record {
+        → (q : Ran) → q ≡ record { phase = Stopped; consumed = r.consumed; written = r.written + v; starved = false } → Heads p₀ s ended out₀ q after
+    head_stops v f h q e =
+        rw e
+        (record {
           came = stops p₀ s ended out₀ r.phase r.consumed r.written out came part z known v f h;
-          wants_input = λ e. no_input e;
-          wants_room = λ e g. absurd (false≢true g);
-        }
+          wants_input = λ g. absurd (false≢true g);
+          wants_room = λ g i. absurd (false≢true i);
+        })
 
 -- the head is what a run is, unless the body has begun
 module _ (p₀ : Phase) (s : List ℕ) (ended : Bool) (out₀ : List ℕ) (h : Ran) (out : List ℕ) (known : Heads p₀ s ended out₀ h out) (b : Bool) (told : b ≡ is_head h.phase) where

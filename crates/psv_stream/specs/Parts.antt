@@ -30,7 +30,7 @@ use Rattle.psv_stream.specs.declared.Step.TheVariants as step
 use Rattle.psv_stream.specs.declared.Ran.{Ran}
 use Rattle.psv_stream.specs.Refusal.{number}
 use Rattle.psv_stream.specs.declared.Refusal.{Refusal}
-use Rattle.psv_stream.specs.declared.body.Place.{Place}
+use Rattle.psv_stream.specs.declared.body.Cursor.{Cursor}
 use Rattle.psv_stream.specs.Run.{header_bytes, stage_of, Prints}
 
 -- what a line comes to that is not too long; of a header line, the text with all before it
@@ -97,13 +97,13 @@ IsPlain path None = Unit {0}
 
 -- texts_line (psv: specs/Line.antt) of the texts that the path's numbers print as
 abbrev pub copied_text : List ℕ → List ℕ → Element → List ℕ
-copied_text begin path e = texts_line begin (sequence_text (asns_of path)) (asn_text (origin_asn (asns_of path))) e
+copied_text start path e = texts_line start (sequence_text (asns_of path)) (asn_text (origin_asn (asns_of path))) e
 
--- a route's line put together from texts: begin, the path as its numbers print, the last of them, and the attributes of e; where it is not, nothing is written
+-- a route's line put together from texts: its start, the path as its numbers print, the last of them, and the attributes of e; where it is not, nothing is written
 abbrev pub Copies : List ℕ → List ℕ → Element → List ℕ → List ℕ → Option ℕ → Type 0
-Copies begin path e out new (Some w) =
-    (length (asns_of path) ≤ 16384) × (length (copied_text begin path e) ≤ 65536) × Puts (copied_text begin path e ++ feed) out new w
-Copies begin path e out new None = new ≡ out
+Copies start path e out new (Some w) =
+    (length (asns_of path) ≤ 16384) × (length (copied_text start path e) ≤ 65536) × Puts (copied_text start path e ++ feed) out new w
+Copies start path e out new None = new ≡ out
 
 -- a line's text l does what z says: of it are c bytes consumed, and the others are of header lines that have come
 abbrev pub Does : P.Step → List ℕ → List ℕ → List ℕ → Step Phase → Type 0
@@ -167,11 +167,11 @@ abbrev pub front_of : State → List ℕ
 front_of σ = front_text true σ.timestamp σ.peer_ip σ.peer_asn
 
 -- The first n bytes of start are the front of all lines, and the first k with the field of the prefix that is remembered behind it, each unless it is 0.
-pub record Begins (front start : List ℕ) (n : ℕ) (m : Remembered) (k : ℕ) : Type 0 where
+pub record Starts (front start : List ℕ) (n : ℕ) (m : Remembered) (k : ℕ) : Type 0 where
   pub front_inside : n ≤ length start
   pub is_front : 0 < n → take n start ≡ front
   pub inside : k ≤ length start
-  pub is_begin : (p : NetworkPrefix) → m ≡ remembered.Valid p → 0 < k → take k start ≡ front ++ between_text p
+  pub is_start : (p : NetworkPrefix) → m ≡ remembered.Valid p → 0 < k → take k start ≡ front ++ between_text p
 
 -- of k bytes, behind a line's prefix text: a blank one leaves the prefix
 abbrev pub kept_len : PrefixText → ℕ → ℕ
@@ -182,19 +182,19 @@ kept_len (prefix.Valid p) k = 0
 -- The loop over the body's lines.
 
 -- the phase that it stands for
-abbrev pub state_of : State → Place → State
+abbrev pub state_of : State → Cursor → State
 state_of σ b = moved σ (record { at = b.position; remembered = plain (remembered_in b.memory) })
 
-abbrev pub phase_of : State → Place → Phase
+abbrev pub phase_of : State → Cursor → Phase
 phase_of σ b = Body (state_of σ b) b.number
 
-abbrev pub step_of : State → Step Place → Step Phase
+abbrev pub step_of : State → Step Cursor → Step Phase
 step_of σ (step.Took c w b) = step.Took c w (phase_of σ b)
 step_of σ (step.Stops w) = step.Stops w
 step_of σ step.Starved = step.Starved
 
 -- whatever comes later, of a step of that loop
-abbrev pub BodySteps : State → Place → List ℕ → Bool → List ℕ → List ℕ → Step Place → Type 0
+abbrev pub BodySteps : State → Cursor → List ℕ → Bool → List ℕ → List ℕ → Step Cursor → Type 0
 BodySteps σ b s ended out new r = Steps (phase_of σ b) s ended out new (step_of σ r)
 
 -- a state that remembers m is not spoilt where a line starts
@@ -202,16 +202,16 @@ abbrev pub Fine : State → Remembered → Type 0
 Fine σ m = spoilt (moved σ (record { at = 0; remembered = plain m })) 0 ≡ false
 
 -- what holds before each line
-pub record Kept (σ : State) (start : List ℕ) (n : ℕ) (b : Place) : Type 0 where
+pub record Kept (σ : State) (start : List ℕ) (n : ℕ) (b : Cursor) : Type 0 where
   pub fine : Fine σ (remembered_in b.memory)
-  pub begins : Begins (front_of σ) start n (remembered_in b.memory) b.start_len
+  pub starts : Starts (front_of σ) start n (remembered_in b.memory) b.start_len
 
 -- and behind it, if others come
-abbrev pub Keeps : State → List ℕ → ℕ → Step Place → Type 0
+abbrev pub Keeps : State → List ℕ → ℕ → Step Cursor → Type 0
 Keeps σ start n (step.Took c w b) = Kept σ start n b
 Keeps σ start n (step.Stops w) = Unit {0}
 Keeps σ start n step.Starved = Unit {0}
 
 -- what a line does that is not too long
-abbrev pub BodyDoes : State → Place → List ℕ → List ℕ → List ℕ → Step Place → Type 0
+abbrev pub BodyDoes : State → Cursor → List ℕ → List ℕ → List ℕ → Step Cursor → Type 0
 BodyDoes σ b l out new r = Does (acts (phase_of σ b) l) l out new (step_of σ r)

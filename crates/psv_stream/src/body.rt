@@ -4,13 +4,15 @@ ghost use Rattle.scan.specs.Lines.{lines};
 ghost use Rattle.text_dump_line.specs.Line.{line_of};
 ghost use Rattle.text_dump_line.specs.declared.Line.TheVariants as read;
 ghost use Rattle.text_dump.specs.declared.Remembered.TheVariants as remembered;
+ghost use Rattle.packed.specs.Packed.{remembered_in};
 ghost use Rattle.psv_stream.specs.Refusal.{number};
 ghost use Rattle.psv_stream.specs.Run.{Runs};
-ghost use Rattle.psv_stream.specs.Parts.{front_of, Fine, Begins, kept_len, Kept, BodyDoes, Keeps, phase_of, BodySteps, IfRoom};
+ghost use Rattle.psv_stream.specs.Parts.{front_of, Fine, Starts, kept_len, Kept, BodyDoes, Keeps, phase_of, BodySteps, IfRoom};
 ghost use Rattle.psv_stream.specs.declared.Phase.TheVariants as phase;
+ghost use Rattle.psv_stream.specs.declared.Step.TheVariants as step;
 
 use crate::route::print_route;
-use crate::{LINE, Phase, Ran, Refusal, Step, refuse};
+use crate::{LINE, PLACES, Phase, Ran, Refusal, Step, refuse, stopped};
 use input::Front;
 use network::NetworkPrefix;
 use output::Writer;
@@ -19,44 +21,86 @@ use psv::Source;
 use text_dump::State;
 use text_dump_line::{Line, PrefixText, RouteEntry};
 
-// Where the loop over the body's lines stands: what the state remembers, packed, and where it is,
-// how many lines of the listing have come, and the length of the cached start, the text that the
-// lines under the remembered prefix begin with.
-// Stays a length: a text that is not printed yet is empty, and an Option would say so twice, by
-// None and by Some(0). The same holds of front_len.
+// What the loop over the body's lines carries from line to line.
 #[derive(Clone, Copy)]
-struct Place {
+struct Cursor {
+    // Where the reading state is in its input.
     position: usize,
+    // How many lines of the listing have come.
     number: u64,
+    // The length of the cached start (Buffers), 0 while none is cached.
+    // Stays a length: a text that is not printed yet is empty, and an Option would say so twice, by
+    // None and by Some(0). The same holds of front_len.
     start_len: usize,
+    // What the reading state remembers, packed.
     memory: Packed,
 }
 
-// What a run of the body works in. The first front_len bytes of start are the front of all lines;
-// asns are 01's AS places.
-// Stays apart from the state and the place: after a refused line the start may be of its prefix and
-// the place of the line before it, so what Kept says of the three is no invariant of one struct.
-#[derive(Drop)]
-struct Buffers {
-    start: [u8; 160],
-    front_len: usize,
-    asns: [u32; 16384],
-}
-
-impl Buffers {
-    fn new() -> Buffers {
-        Buffers {
-            start: [0; 160],
-            front_len: 0,
-            asns: [0; 16384],
+impl Cursor {
+    // Before the first line.
+    #[tactic(auto, using(crate::proofs::Bodies::first_phase))]
+    fn new(state: State, number: u64) -> Cursor
+        ensures phase { phase_of state result ≡ phase.Body state number }
+        ensures remembers { remembered_in result.memory ≡ state.remembered }
+        ensures none_cached { result.start_len ≡ 0 }
+    {
+        Cursor {
+            position: state.position,
+            number,
+            start_len: 0,
+            memory: packed::pack(state.remembered),
         }
     }
 }
 
+// The longest start of a line that is cached.
+const START: usize = 160;
+
+// What a run of the body works in.
+// Stays apart from the state and the cursor: after a refused line the start may be of its prefix
+// and the cursor of the line before it, so what Kept says of the three is no invariant of a struct.
+#[derive(Drop)]
+struct Buffers {
+    // The cached start: what the lines under one prefix begin with. Its first front_len bytes are
+    // the front, the same in all lines of the table; the field of the prefix follows.
+    start: [u8; START],
+    front_len: usize,
+    // The AS numbers of a line's path.
+    asns: [u32; PLACES],
+}
+
+impl Buffers {
+    // With the front printed.
+    fn new(state: State) -> Buffers
+        ensures { Starts (front_of state) result.start result.front_len state.remembered 0 }
+    {
+        let mut start = [0; START];
+        let front_len = put_start(state, &mut start);
+        Buffers {
+            start,
+            front_len,
+            asns: [0; PLACES],
+        }
+    }
+}
+
+// Prints what the lines of a table begin with: its length, 0 where it has no room.
+fn put_start(state: State, out: &mut [u8]) -> usize
+    ensures { Starts (front_of state) out.new result state.remembered 0 }
+{
+    let source = Source {
+        announce: true,
+        timestamp: state.timestamp,
+        peer_ip: state.peer_ip,
+        peer_asn: state.peer_asn,
+    };
+    psv::put_front(source, out).unwrap_or(0)
+}
+
 // Fills the cached start of the lines under a prefix, if it is empty and has room: its length then.
-#[tactic(auto, using(crate::proofs::Routes::none_begun))]
+#[tactic(auto, using(crate::proofs::Routes::none_started))]
 fn start_of(start: &mut [u8], front_len: usize, prefix: NetworkPrefix, start_len: usize) -> usize
-    ensures { (front : List ℕ) → Begins front start.old front_len (remembered.Valid prefix) start_len → Begins front start.new front_len (remembered.Valid prefix) result }
+    ensures { (front : List ℕ) → Starts front start.old front_len (remembered.Valid prefix) start_len → Starts front start.new front_len (remembered.Valid prefix) result }
 {
     if front_len == 0 {
         return 0;
@@ -78,8 +122,19 @@ fn kept_len(text: PrefixText, start_len: usize) -> usize
 {
     match text {
         PrefixText::Blank => start_len,
-        PrefixText::Invalid => 0,
-        PrefixText::Valid(_) => 0,
+        PrefixText::Invalid | PrefixText::Valid(_) => 0,
+    }
+}
+
+// A line of the body is taken: the reading state is at its end then.
+#[inline(always)]
+fn took(written: usize, next: Cursor) -> Step<Cursor>
+    ensures { result ≡ step.Took next.position written next }
+{
+    Step::Took {
+        consumed: next.position,
+        written,
+        next,
     }
 }
 
@@ -87,45 +142,35 @@ fn kept_len(text: PrefixText, start_len: usize) -> usize
 fn route_line(
     buffers: &mut Buffers,
     state: State,
-    b: Place,
+    cursor: Cursor,
     text: PrefixText,
     entry: RouteEntry,
     line: &[u8],
     out: &mut [u8; LINE],
-) -> Step<Place>
+) -> Step<Cursor>
     requires line_value { lines line.now ≡ line.now ∷ [] }
     requires text_value { read.Route entry text ≡ line_of state.columns line.now }
-    requires kept { Kept state buffers.old.start buffers.old.front_len b }
-    ensures body_does { BodyDoes state b line.now out.old out.new result }
+    requires kept { Kept state buffers.old.start buffers.old.front_len cursor }
+    ensures body_does { BodyDoes state cursor line.now out.old out.new result }
     ensures keeps { Keeps state buffers.new.start buffers.new.front_len result }
 {
-    let number = b.number.wrapping_add(1);
-    let position = line.len();
-    let kept = kept_len(text, b.start_len);
-    let memory = packed::pack_behind(text, b.memory);
-    let bare = Place {
-        position,
-        number,
+    let memory = packed::pack_behind(text, cursor.memory);
+    let next = Cursor {
+        position: line.len(),
+        number: cursor.number.wrapping_add(1),
         start_len: 0,
         memory,
     };
     if memory.kind < 2 {
-        return Step::Took(position, 0, bare);
+        return took(0, next);
     }
     let prefix = packed::prefix_of(memory);
+    let kept = kept_len(text, cursor.start_len);
     let start_len = start_of(&mut buffers.start, buffers.front_len, prefix, kept);
-    let put = print_route(
-        &buffers.start[..start_len],
-        state,
-        prefix,
-        entry,
-        line,
-        &mut buffers.asns,
-        out,
-    );
-    match put {
-        Ok(n) => Step::Took(position, n, Place { start_len, ..bare }),
-        Err(why) => Step::Stops(refuse(why, number, out)),
+    let start = &buffers.start[..start_len];
+    match print_route(start, state, prefix, entry, line, &mut buffers.asns, out) {
+        Ok(written) => took(written, Cursor { start_len, ..next }),
+        Err(why) => Step::Stops(refuse(why, next.number, out)),
     }
 }
 
@@ -133,58 +178,55 @@ fn route_line(
 fn body_line(
     buffers: &mut Buffers,
     state: State,
-    b: Place,
+    cursor: Cursor,
     line: &[u8],
     out: &mut [u8; LINE],
-) -> Step<Place>
+) -> Step<Cursor>
     requires line_value { lines line.now ≡ line.now ∷ [] }
-    requires kept { Kept state buffers.old.start buffers.old.front_len b }
-    ensures body_does { BodyDoes state b line.now out.old out.new result }
+    requires kept { Kept state buffers.old.start buffers.old.front_len cursor }
+    ensures body_does { BodyDoes state cursor line.now out.old out.new result }
     ensures keeps { Keeps state buffers.new.start buffers.new.front_len result }
 {
-    let number = b.number.wrapping_add(1);
-    let position = line.len();
-    let next = Place {
-        position,
-        number,
-        ..b
+    let next = Cursor {
+        position: line.len(),
+        number: cursor.number.wrapping_add(1),
+        ..cursor
     };
     match text_dump_line::line_of(line, state.columns) {
-        Line::Unreadable => Step::Stops(refuse(Refusal::UnreadableLine, number, out)),
-        Line::Passed => Step::Took(position, 0, next),
-        Line::Wrapped(wrapped) => {
-            let memory = packed::pack_prefix(wrapped);
-            Step::Took(
-                position,
-                0,
-                Place {
-                    start_len: 0,
-                    memory,
-                    ..next
-                },
-            )
+        Line::Unreadable => Step::Stops(refuse(Refusal::UnreadableLine, next.number, out)),
+        Line::Passed => took(0, next),
+        Line::Wrapped(prefix) => {
+            let wrapped = Cursor {
+                start_len: 0,
+                memory: packed::pack_prefix(prefix),
+                ..next
+            };
+            took(0, wrapped)
         }
-        Line::Route(entry, text) => route_line(buffers, state, b, text, entry, line, out),
+        Line::Route(entry, text) => route_line(buffers, state, cursor, text, entry, line, out),
     }
 }
 
 fn take_body_line(
     buffers: &mut Buffers,
     state: State,
-    b: Place,
+    cursor: Cursor,
     input: &[u8],
     ended: bool,
     out: &mut [u8; LINE],
-) -> Step<Place>
-    requires { Kept state buffers.old.start buffers.old.front_len b }
-    ensures steps { BodySteps state b input.now ended out.old out.new result }
+) -> Step<Cursor>
+    requires { Kept state buffers.old.start buffers.old.front_len cursor }
+    ensures steps { BodySteps state cursor input.now ended out.old out.new result }
     ensures keeps { Keeps state buffers.new.start buffers.new.front_len result }
 {
     match input::line_at(input, 0, ended) {
         Front::Starved => Step::Starved,
         Front::Nothing => Step::Stops(0),
-        Front::TooLong => Step::Stops(refuse(Refusal::LineTooLong, b.number.wrapping_add(1), out)),
-        Front::Line(end) => body_line(buffers, state, b, &input[..end], out),
+        Front::TooLong => {
+            let number = cursor.number.wrapping_add(1);
+            Step::Stops(refuse(Refusal::LineTooLong, number, out))
+        }
+        Front::Line(end) => body_line(buffers, state, cursor, &input[..end], out),
     }
 }
 
@@ -193,27 +235,30 @@ fn take_body_line(
 fn next_body_line(
     buffers: &mut Buffers,
     state: State,
-    b: Place,
+    cursor: Cursor,
     input: &[u8],
     ended: bool,
     out: &mut [u8],
-) -> Option<Step<Place>>
-    requires { Kept state buffers.old.start buffers.old.front_len b }
-    ensures steps { IfRoom (BodySteps state b input.now ended) out.old out.new result }
+) -> Option<Step<Cursor>>
+    requires { Kept state buffers.old.start buffers.old.front_len cursor }
+    ensures steps { IfRoom (BodySteps state cursor input.now ended) out.old out.new result }
     ensures keeps { IfSome result (Keeps state buffers.new.start buffers.new.front_len) }
 {
     let room = out.first_chunk_mut::<LINE>()?;
-    Some(take_body_line(buffers, state, b, input, ended, room))
+    Some(take_body_line(buffers, state, cursor, input, ended, room))
 }
 
 // A run that ends in the body.
 #[tactic(auto, using(crate::proofs::Bodies::ran))]
-fn body_ran(state: State, b: Place, consumed: usize, written: usize, starved: bool) -> Ran
-    ensures { result ≡ record { phase = phase_of state b; consumed = consumed; written = written; starved = starved } }
+fn body_ran(state: State, cursor: Cursor, consumed: usize, written: usize, starved: bool) -> Ran
+    ensures { result ≡ record { phase = phase_of state cursor; consumed = consumed; written = written; starved = starved } }
 {
-    let remembered = packed::unpack(b.memory);
+    let remembered = packed::unpack(cursor.memory);
     Ran {
-        phase: Phase::Body(state.moved(b.position, remembered), b.number),
+        phase: Phase::Body {
+            state: state.moved(cursor.position, remembered),
+            lines: cursor.number,
+        },
         consumed,
         written,
         starved,
@@ -233,68 +278,43 @@ fn take_body(
     out: &mut [u8],
 ) -> Ran
     requires fine { Fine state state.remembered }
-    requires begins { Begins (front_of state) buffers.old.start buffers.old.front_len state.remembered 0 }
+    requires starts { Starts (front_of state) buffers.old.start buffers.old.front_len state.remembered 0 }
     ensures { Runs (phase.Body state number) input.now ended out.old result out.new }
 {
-    let memory = packed::pack(state.remembered);
-    let mut b = Place {
-        position: state.position,
-        number,
-        start_len: 0,
-        memory,
-    };
+    let mut cursor = Cursor::new(state, number);
     let mut consumed = 0;
     let mut written = 0;
     while let Some(step) = next_body_line(
         buffers,
         state,
-        b,
+        cursor,
         &input[consumed..],
         ended,
         &mut out[written..],
     ) {
         match step {
-            Step::Starved => {
-                return body_ran(state, b, consumed, written, true);
-            }
-            Step::Stops(n) => {
-                return Ran {
-                    phase: Phase::Stopped,
-                    consumed,
-                    written: written + n,
-                    starved: false,
-                };
-            }
-            Step::Took(bytes, n, next) => {
-                b = next;
+            Step::Starved => return body_ran(state, cursor, consumed, written, true),
+            Step::Stops(n) => return stopped(consumed, written + n),
+            Step::Took {
+                consumed: bytes,
+                written: n,
+                next,
+            } => {
+                cursor = next;
                 consumed += bytes;
                 written += n;
             }
         }
     }
-    body_ran(state, b, consumed, written, false)
+    body_ran(state, cursor, consumed, written, false)
 }
 
-// Prints what the lines of a table begin with: its length, 0 where it has no room.
-fn put_start(state: State, out: &mut [u8]) -> usize
-    ensures { Begins (front_of state) out.new result state.remembered 0 }
-{
-    let source = Source {
-        announce: true,
-        timestamp: state.timestamp,
-        peer_ip: state.peer_ip,
-        peer_asn: state.peer_asn,
-    };
-    psv::put_front(source, out).unwrap_or(0)
-}
-
-// A run from the body on. What its lines begin with is printed once, the field of a prefix once for
-// its lines.
+// A run from the body on. The front of its lines is printed once, and the field of a prefix once
+// for the lines under it.
 pub(crate) fn run_body(state: State, number: u64, input: &[u8], ended: bool, out: &mut [u8]) -> Ran
     requires { Fine state state.remembered }
     ensures { Runs (phase.Body state number) input.now ended out.old result out.new }
 {
-    let mut buffers = Buffers::new();
-    buffers.front_len = put_start(state, &mut buffers.start);
+    let mut buffers = Buffers::new(state);
     take_body(&mut buffers, state, number, input, ended, out)
 }

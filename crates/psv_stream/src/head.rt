@@ -8,7 +8,7 @@ ghost use Rattle.psv_stream.specs.Refusal.{number};
 ghost use Rattle.psv_stream.specs.Run.{header_bytes};
 ghost use Rattle.psv_stream.specs.Parts.{acts, is_head, Puts, Ends, TooLong, Does, Steps, IfRoom, Heads};
 
-use crate::{LINE, Phase, Ran, Refusal, Step, refuse};
+use crate::{LINE, Phase, Ran, Refusal, Step, refuse, stopped};
 use input::Front;
 use output::Writer;
 use text_dump::{OpenError, State};
@@ -16,25 +16,25 @@ use timestamp::InferError;
 
 // What is printed at the input's end.
 #[tactic(auto, using(crate::proofs::Lines::end_laws))]
-fn end(phase: Phase, out: &mut [u8; LINE]) -> usize
+fn at_end(phase: Phase, out: &mut [u8; LINE]) -> usize
     ensures { Ends phase out.old out.new result }
 {
     match phase {
-        Phase::Path => refuse(Refusal::NoColumns, 0, out),
-        Phase::Header(_, _, _) => refuse(Refusal::NoColumns, 0, out),
-        Phase::Body(_, _) => 0,
-        Phase::Stopped => 0,
+        Phase::Path | Phase::Header { .. } => refuse(Refusal::NoColumns, 0, out),
+        Phase::Body { .. } | Phase::Stopped => 0,
     }
 }
 
+// What is printed of a line that is too long.
 #[tactic(auto, using(crate::proofs::Lines::long_laws))]
 fn too_long(phase: Phase, out: &mut [u8; LINE]) -> usize
     ensures { TooLong phase out.old out.new result }
 {
     match phase {
         Phase::Path => refuse(Refusal::LineTooLong, 0, out),
-        Phase::Header(_, n, _) => refuse(Refusal::LineTooLong, n.wrapping_add(1), out),
-        Phase::Body(_, n) => refuse(Refusal::LineTooLong, n.wrapping_add(1), out),
+        Phase::Header { lines, .. } | Phase::Body { lines, .. } => {
+            refuse(Refusal::LineTooLong, lines.wrapping_add(1), out)
+        }
         Phase::Stopped => 0,
     }
 }
@@ -43,7 +43,15 @@ fn path_line(line: &[u8], out: &mut [u8; LINE]) -> Step<Phase>
     ensures { Does (dated (infer_timestamp line.now)) line.now out.old out.new result }
 {
     match timestamp::infer_timestamp_from_path(line) {
-        Ok(date) => Step::Took(line.len(), 0, Phase::Header(date.unwrap_or(0.0), 0, 0)),
+        Ok(date) => Step::Took {
+            consumed: line.len(),
+            written: 0,
+            next: Phase::Header {
+                timestamp: date.unwrap_or(0.0),
+                lines: 0,
+                size: 0,
+            },
+        },
         Err(InferError::NotUtf8) => Step::Stops(refuse(Refusal::PathNotUtf8, 0, out)),
     }
 }
@@ -58,11 +66,18 @@ fn put_header(out: &mut [u8; LINE]) -> usize
 }
 
 // Tries to open the listing by its first lines, as many as `number` says.
-fn header_line(t: f64, number: u64, lines: &[u8], out: &mut [u8; LINE]) -> Step<Phase>
-    ensures { Does (scanned t number lines.now (open_of t lines.now)) lines.now out.old out.new result }
+fn header_line(timestamp: f64, number: u64, text: &[u8], out: &mut [u8; LINE]) -> Step<Phase>
+    ensures { Does (scanned timestamp number text.now (open_of timestamp text.now)) text.now out.old out.new result }
 {
-    match State::open(lines, t) {
-        Ok(state) => Step::Took(lines.len(), put_header(out), Phase::Body(state, number)),
+    match State::open(text, timestamp) {
+        Ok(state) => Step::Took {
+            consumed: text.len(),
+            written: put_header(out),
+            next: Phase::Body {
+                state,
+                lines: number,
+            },
+        },
         Err(OpenError::Unreadable(line)) => Step::Stops(refuse(
             Refusal::UnreadableHeader,
             line as u64,
@@ -72,7 +87,15 @@ fn header_line(t: f64, number: u64, lines: &[u8], out: &mut [u8; LINE]) -> Step<
         Err(OpenError::NoColumns) => {
             let more = number < 64;
             if more {
-                return Step::Took(0, 0, Phase::Header(t, number, lines.len()));
+                return Step::Took {
+                    consumed: 0,
+                    written: 0,
+                    next: Phase::Header {
+                        timestamp,
+                        lines: number,
+                        size: text.len(),
+                    },
+                };
             }
             Step::Stops(refuse(Refusal::NoColumns, 0, out))
         }
@@ -86,9 +109,8 @@ pub(crate) fn is_head(phase: Phase) -> bool
     ensures { result ≡ is_head phase }
 {
     match phase {
-        Phase::Path => true,
-        Phase::Header(_, _, _) => true,
-        Phase::Body(state, _) => state.turn().is_spoilt(0),
+        Phase::Path | Phase::Header { .. } => true,
+        Phase::Body { state, .. } => state.turn().is_spoilt(0),
         Phase::Stopped => false,
     }
 }
@@ -101,11 +123,17 @@ fn on_line(phase: Phase, text: &[u8], out: &mut [u8; LINE]) -> Step<Phase>
 {
     match phase {
         Phase::Path => path_line(text, out),
-        Phase::Header(t, n, _) => {
-            let number = n.wrapping_add(1);
-            header_line(t, number, text, out)
+        Phase::Header {
+            timestamp,
+            lines,
+            ..
+        } => {
+            let number = lines.wrapping_add(1);
+            header_line(timestamp, number, text, out)
         }
-        Phase::Body(_, n) => Step::Stops(refuse(Refusal::SpoiltState, n.wrapping_add(1), out)),
+        Phase::Body { lines, .. } => {
+            Step::Stops(refuse(Refusal::SpoiltState, lines.wrapping_add(1), out))
+        }
         Phase::Stopped => Step::Stops(0),
     }
 }
@@ -115,10 +143,8 @@ fn header_bytes(phase: Phase) -> usize
     ensures { result ≡ header_bytes phase }
 {
     match phase {
-        Phase::Path => 0,
-        Phase::Header(_, _, size) => size,
-        Phase::Body(_, _) => 0,
-        Phase::Stopped => 0,
+        Phase::Header { size, .. } => size,
+        Phase::Path | Phase::Body { .. } | Phase::Stopped => 0,
     }
 }
 
@@ -129,7 +155,7 @@ fn take_line(phase: Phase, input: &[u8], ended: bool, out: &mut [u8; LINE]) -> S
 {
     match input::line_at(input, header_bytes(phase), ended) {
         Front::Starved => Step::Starved,
-        Front::Nothing => Step::Stops(end(phase, out)),
+        Front::Nothing => Step::Stops(at_end(phase, out)),
         Front::TooLong => Step::Stops(too_long(phase, out)),
         Front::Line(end) => on_line(phase, &input[..end], out),
     }
@@ -170,17 +196,15 @@ pub(crate) fn take_head(phase: Phase, input: &[u8], ended: bool, out: &mut [u8])
                     ..ran
                 };
             }
-            Step::Stops(n) => {
-                return Ran {
-                    phase: Phase::Stopped,
-                    written: ran.written + n,
-                    ..ran
-                };
-            }
-            Step::Took(bytes, n, next) => {
+            Step::Stops(n) => return stopped(ran.consumed, ran.written + n),
+            Step::Took {
+                consumed,
+                written,
+                next,
+            } => {
                 ran.phase = next;
-                ran.consumed += bytes;
-                ran.written += n;
+                ran.consumed += consumed;
+                ran.written += written;
             }
         }
     }

@@ -6,11 +6,12 @@ mod body;
 mod head;
 mod route;
 
-ghost use Rattle.std.specs.Prelude.{◌≡◌};
+ghost use Rattle.std.specs.Prelude.{◌≡◌, false};
 ghost use Rattle.psv_stream.specs.Printed.{refusal_text};
 ghost use Rattle.psv_stream.specs.Refusal.{number, of_asns, of_element};
 ghost use Rattle.psv_stream.specs.Run.{Runs};
 ghost use Rattle.psv_stream.specs.Parts.{Puts};
+ghost use Rattle.psv_stream.specs.declared.Phase.TheVariants as phase;
 
 use crate::body::run_body;
 use crate::head::{is_head, take_head};
@@ -19,19 +20,32 @@ use path_text::AsnsError;
 use psv::ElementError;
 use text_dump::State;
 
-// The room that a line is printed into: 65,536 bytes and a line feed.
-const LINE: usize = 65537;
+// The longest text of an element's line.
+const TEXT: usize = 65536;
+
+// The room that a line is printed into: such a text and a line feed.
+const LINE: usize = TEXT + 1;
+
+// How many AS numbers a path may have.
+const PLACES: usize = 16384;
 
 // Where the program is in its input.
 #[derive(Clone, Copy)]
 pub enum Phase {
     // The path line.
     Path,
-    // A line scanned for the column header: the timestamp, how many lines of the listing have come,
-    // and how many of the bytes that are not consumed are theirs.
-    Header(f64, u64, usize),
-    // A body line: the reading state, and how many lines of the listing have come.
-    Body(State, u64),
+    // A line scanned for the column header. So many lines of the listing have come, and so many of
+    // the bytes that are not consumed are theirs.
+    Header {
+        timestamp: f64,
+        lines: u64,
+        size: usize,
+    },
+    // A body line, after so many lines of the listing.
+    Body {
+        state: State,
+        lines: u64,
+    },
     // Nothing more.
     Stopped,
 }
@@ -91,13 +105,19 @@ impl From<ElementError> for Refusal {
     }
 }
 
-// What a line comes to: how many bytes are consumed, how many are written, and where the next line
-// is taken from (a Phase in the head, a Place in the body); or the last bytes that are written. The
-// numbers come first, so that each stands at the same place in every variant.
+// What a line comes to; P is a Phase in the head and a Cursor in the body. The numbers come first,
+// so that each stands at the same place in every variant.
 #[derive(Clone, Copy)]
 enum Step<P> {
-    Took(usize, usize, P),
+    // The line is taken, and the next one is taken from `next`.
+    Took {
+        consumed: usize,
+        written: usize,
+        next: P,
+    },
+    // So many bytes are written, and they are the last.
     Stops(usize),
+    // There is no whole line yet.
     Starved,
 }
 
@@ -111,6 +131,20 @@ pub struct Ran {
     pub starved: bool,
 }
 
+// A run after which nothing more is to come.
+#[inline(always)]
+fn stopped(consumed: usize, written: usize) -> Ran
+    ensures { result ≡ record { phase = phase.Stopped; consumed = consumed; written = written; starved = false } }
+{
+    Ran {
+        phase: Phase::Stopped,
+        consumed,
+        written,
+        starved: false,
+    }
+}
+
+// Prints a refusal: its length.
 fn refuse(why: Refusal, line: u64, out: &mut [u8; LINE]) -> usize
     ensures { Puts (refusal_text (number why) line) out.old out.new result }
 {
@@ -131,12 +165,12 @@ pub fn run(phase: Phase, input: &[u8], ended: bool, out: &mut [u8]) -> Ran
     if is_head(head.phase) {
         return head;
     }
-    let Phase::Body(state, number) = head.phase else {
+    let Phase::Body { state, lines } = head.phase else {
         return head;
     };
     let body = run_body(
         state,
-        number,
+        lines,
         &input[head.consumed..],
         ended,
         &mut out[head.written..],

@@ -6,7 +6,7 @@ ghost use Rattle.text_dump_line.specs.Line.{path_of};
 ghost use Rattle.text_dump.specs.declared.Remembered.TheVariants as remembered;
 ghost use Rattle.psv_stream.specs.Parts.{front_of, PutElement, PlainDigits, IsPlain, Copies, PutRoute, PutCopy, Fine};
 
-use crate::{LINE, Refusal};
+use crate::{LINE, PLACES, Refusal, TEXT};
 use elem::Element;
 use network::NetworkPrefix;
 use output::Writer;
@@ -18,7 +18,7 @@ use text_dump_line::RouteEntry;
 fn put_element(e: Element, asns: &[u32], out: &mut [u8; LINE]) -> Result<usize, ElementError>
     ensures { PutElement e asns.now out.old out.new result }
 {
-    let end = psv::to_psv(e, asns, &mut out[..65536])?;
+    let end = psv::to_psv(e, asns, &mut out[..TEXT])?;
     let mut w = Writer { out, at: end };
     w.byte(b'\n');
     Ok(w.at)
@@ -30,7 +30,7 @@ fn print_numbers(
     prefix: NetworkPrefix,
     entry: RouteEntry,
     path: &[u8],
-    asns: &mut [u32; 16384],
+    asns: &mut [u32; PLACES],
     out: &mut [u8; LINE],
 ) -> Result<usize, Refusal>
     ensures { PutRoute state prefix entry (asns_of path.now) out.old out.new result }
@@ -87,14 +87,14 @@ fn plain_path(path: &[u8]) -> Option<(usize, usize)>
 
 // The line of a route whose path is plain, with a line feed, after what the line begins with; None,
 // and nothing written, where the path is not plain or the line not surely short enough.
-fn copy_route(begin: &[u8], path: &[u8], e: Element, out: &mut [u8; LINE]) -> Option<usize>
-    ensures { Copies begin.now path.now e out.old out.new result }
+fn copy_route(start: &[u8], path: &[u8], e: Element, out: &mut [u8; LINE]) -> Option<usize>
+    ensures { Copies start.now path.now e out.old out.new result }
 {
-    if 16384 < path.len() {
+    if PLACES < path.len() {
         return None;
     }
     let (last, end) = plain_path(path)?;
-    let at = psv::put_texts(begin, &path[..end], &path[last..end], e, &mut out[..65536]).ok()?;
+    let at = psv::put_texts(start, &path[..end], &path[last..end], e, &mut out[..TEXT]).ok()?;
     let mut w = Writer { out, at };
     w.byte(b'\n');
     Some(w.at)
@@ -128,7 +128,7 @@ pub(crate) fn print_route(
     prefix: NetworkPrefix,
     entry: RouteEntry,
     line: &[u8],
-    asns: &mut [u32; 16384],
+    asns: &mut [u32; PLACES],
     out: &mut [u8; LINE],
 ) -> Result<usize, Refusal>
     requires fine { Fine state (remembered.Valid prefix) }

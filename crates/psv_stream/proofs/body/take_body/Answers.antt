@@ -9,7 +9,7 @@ pub returns-in-Starved : goal.returns-in-Starved
 returns-in-Starved c = starves c.loop-step.invariant.came _ _ c.in-Some.ensures.steps (search rules) _ c.body_ran.ensures
 
 pub returns-in-Stops : goal.returns-in-Stops
-returns-in-Stops c = stops c.loop-step.invariant.came _ _ c.in-Some.ensures.steps _ c.in-Stops.is (search rules)
+returns-in-Stops c = stops c.loop-step.invariant.came _ _ c.in-Some.ensures.steps _ c.in-Stops.is (search rules) _ c.stopped.ensures
 
 pub loop-step-smaller : goal.loop-step-smaller
 loop-step-smaller c = fewer c.loop-step.invariant.came _ _ c.in-Some.ensures.steps _ _ _ c.in-Took.is

@@ -26,4 +26,4 @@ returns-in_err-at c =
 
 pub returns : goal.returns
 returns c =
-    copied_put _ _ _ _ _ _ _ _ (search rules) (spelled _ _ c.plain_path.ensures _ _ c.in_ok-last.was) c.put_texts.ensures c.if-path-gt16384.false _ (search rules) _ _ (written_by c.byte.ensures (search rules))
+    copied_put _ _ _ _ _ _ _ _ (search rules) (spelled _ _ c.plain_path.ensures _ _ c.in_ok-last.was) c.put_texts.ensures c.if-path-gt-PLACES.false _ (search rules) _ _ (written_by c.byte.ensures (search rules))
