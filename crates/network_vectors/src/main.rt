@@ -3,7 +3,7 @@
 #![tactic(auto)]
 
 use cases::{Answer, InHex, Or, Program};
-use network::{IpAddr, NetworkPrefix};
+use network::NetworkPrefix;
 use output::Writer;
 use std::io;
 use std::io::Write;

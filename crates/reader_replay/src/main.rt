@@ -9,7 +9,7 @@ use columns::Columns;
 use cuts::Cut;
 use plain_calls::Prefix;
 use std::io;
-use text_dump::{NextError, OpenError, State};
+use text_dump::{OpenError, State};
 
 const TIMESTAMP: f64 = 1709251200.0;
 
