@@ -28,6 +28,8 @@ pub struct AsPath<'a> {
 }
 
 // The refusal of a spoilt record (01, Where a call says no, 10).
+// Stays an impl of From<Spoilt> for each call's errors, four in all: a macro of ours may write
+// none, and one enum for all would name refusals that a call never gives.
 #[derive(Debug, Clone, Copy, PartialEq, Eq)]
 pub struct Spoilt;
 
@@ -232,10 +234,9 @@ impl<'a> AsPath<'a> {
         }
         let mut product: u64 = 1;
         for segment in self.segments() {
-            let Some(more) = product.checked_mul(segment.choices()) else {
-                return Err(VariationsError::TooMany);
-            };
-            product = more;
+            product = product
+                .checked_mul(segment.choices())
+                .ok_or(VariationsError::TooMany)?;
         }
         Ok(product)
     }

@@ -1,6 +1,8 @@
 -- The answer of `has_equivalent_routing` from what its calls ensure. P and Q stand for what the two records hold.
-use Rattle.std.proofs.Common.{◌≡◌, ℕ, ◌-◌, ◌≤◌, Bool, ◌&&◌, List, ◌++◌, Option, Some, None, Ok, Err, length, take, drop, replicate, refl, sym, ap, ◌∙◌, arith, append_assoc, length-append}
+use Rattle.std.proofs.Common.{◌≡◌, ℕ, ◌-◌, ◌≤◌, Bool, ◌&&◌, List, ◌++◌, Option, Some, None, Result, Ok, Err, length, take, drop, replicate, refl, sym, ap, ◌∙◌, arith, append_assoc, length-append}
+use Rattle.std.specs.Prelude.{IsErrAnd}
 use Rattle.std.proofs.lemmas.List.{length-map}
+use Rattle.std.proofs.lemmas.Result.{err_from_is_err_and}
 use Rattle.std.proofs.Math.Path.{ap₂}
 use Rattle.std.proofs.Math.Seq.{take_at}
 use Rattle.aspath.specs.declared.Spoilt.{Spoilt}
@@ -11,6 +13,7 @@ use Rattle.aspath_normal.specs.Normal.{dedup_coalesce}
 use Rattle.aspath_normal.specs.Layout.{in_place, after, counts_of, counts}
 use Rattle.aspath_normal.proofs.Normal.{normal_sorted}
 use Rattle.aspath_equivalence.specs.Routing.{same_numbers, equivalent, both, equivalence}
+use Rattle.aspath_equivalence.specs.declared.Equivalence.{Equivalence}
 use Rattle.aspath_equivalence.proofs.Lists.{same_by_lists}
 
 both_none : (P Q : Option (List Segment)) → P ≡ None → (both P Q ≡ None) × (both Q P ≡ None)
@@ -18,38 +21,47 @@ unfolding both
 both_none P (Some q) e = rw e (refl, refl)
 both_none P None e = rw e (refl, refl)
 
--- a spoilt record: nothing is changed
-module _ (P Q : Option (List Segment)) (e : P ≡ None) where
-  pub first_spoilt : Err spoilt_record ≡ equivalence P Q
+-- the second record is spoilt: nothing is changed
+module _ (P Q : Option (List Segment)) (e : None ≡ Q) where
+  pub second_refused : (S : Spoilt → Type 0) (r : Result Equivalence Spoilt) → IsErrAnd r S → r ≡ equivalence P Q
   unfolding equivalence
-  first_spoilt = rw e
-
-  pub second_spoilt : Err spoilt_record ≡ equivalence Q P
-  unfolding equivalence
-  second_spoilt = go Q
+  second_refused S r h = (err_from_is_err_and r h).1 ∙ go P
     where
-      go : (Q : Option (List Segment)) → Err spoilt_record ≡ equivalence Q P
-      go (Some q) = rw e
+      go : (P : Option (List Segment)) → Err spoilt_record ≡ equivalence P Q
+      go (Some p) = rw (← e)
       go None = refl
 
   module _ (layout : List Segment → List ℕ) (n : ℕ) (old : List ℕ) where
-    pub kept_first : old ≡ after layout (both P Q) n old
+    pub second_spoilt : old ≡ after layout (both P Q) n old
     unfolding after
-    kept_first = rw (both_none P Q e).0
+    second_spoilt = rw (both_none Q P (sym e)).1
 
-    pub kept_second : old ≡ after layout (both Q P) n old
+    pub second_spoilt_itself : old ≡ after layout (both Q P) n old
     unfolding after
-    kept_second = rw (both_none P Q e).1
-
-    -- where the call itself found the record spoilt
-    pub left_as_it_was : (new : List ℕ) → new ≡ after layout P n old → new ≡ after layout (both P Q) n old
-    unfolding after both
-    left_as_it_was new f = f ∙ rw e
+    second_spoilt_itself = rw (both_none Q P (sym e)).0
 
 pub refused_none : (P : Option (List Segment)) (r : Spoilt) → Err r ≡ counts dedup_coalesce P → P ≡ None
 unfolding counts
 refused_none (Some p) r e = absurd (cc)
 refused_none None r e = refl
+
+-- the first is, as the call that changes it found
+module _ (P Q : Option (List Segment)) (s : Spoilt) (e : Err s ≡ counts dedup_coalesce P) where
+  pub first_refused : (S : Spoilt → Type 0) (r : Result Equivalence Spoilt) → IsErrAnd r S → r ≡ equivalence P Q
+  unfolding equivalence
+  first_refused S r h = (err_from_is_err_and r h).1 ∙ rw (refused_none P s e)
+
+  module _ (layout : List Segment → List ℕ) (n : ℕ) (old : List ℕ) where
+    pub first_spoilt : old ≡ after layout (both Q P) n old
+    unfolding after
+    first_spoilt = rw (both_none P Q (refused_none P s e)).1
+
+    pub first_spoilt_itself : (new : List ℕ) → new ≡ after layout P n old → new ≡ after layout (both P Q) n old
+    unfolding after both
+    first_spoilt_itself new f = f ∙ rw (refused_none P s e)
+
+-- for the refusals of both
+pub ruleset refusals = (second_refused, second_spoilt, second_spoilt_itself, first_refused, first_spoilt, first_spoilt_itself)
 
 -- no record is spoilt: each list is as `dedup_coalesce` left it
 pub both_left : (P Q : Option (List Segment)) (q : List Segment) → Some q ≡ Q → (layout : List Segment → List ℕ) (n : ℕ) (old new : List ℕ)

@@ -44,9 +44,10 @@ impl<'a> NormalForm<'a> {
     }
 }
 
-// AsPath::has_equivalent_routing, which leaves both paths in their normal form. The second is tested
-// before the first is changed; the answer does not tell which of two was spoilt.
+// AsPath::has_equivalent_routing, which leaves both paths in their normal form. The second is
+// tested before the first is changed; the answer does not tell which of two was spoilt.
 // Stays six lent lists and four counts, as dedup_coalesce takes them.
+#[tactic(auto, using(crate::proofs::Routing::refusals))]
 pub fn has_equivalent_routing(
     kinds: &mut [u8],
     lengths: &mut [u32],

@@ -83,6 +83,9 @@ module _ (t₀ : List ℕ) (y j : ℕ) (t : List ℕ) (last k i : ℕ) (d : Dedu
     is_next : get_or t i 0 ≡ get_or t₀ i 0
     is_next = at_next d.done last (i - k) i place (get_or t₀ i 0) (drop (i + 1) t₀) t now_next
 
+    whole_next : kept_from t₀ y j ≡ d.done ++ (last ∷ dedup_after last (get_or t i 0 ∷ drop (i + 1) t₀))
+    whole_next = d.whole ∙ ap (λ r. d.done ++ (last ∷ dedup_after last r)) (uncons t₀ i more ∙ ap (λ a. a ∷ drop (i + 1) t₀) (sym is_next))
+
     pub equal_dropped : get_or t i 0 ≡ last → Deduping t₀ y j (set t i 0) last k (i + 1)
     equal_dropped e =
         record {
@@ -94,11 +97,9 @@ module _ (t₀ : List ℕ) (y j : ℕ) (t : List ℕ) (last k i : ℕ) (d : Dedu
           now = cleared d.done last (i - k) i place (get_or t₀ i 0) (drop (i + 1) t₀) t now_next
               ∙ (let q : suc (i - k) ≡ i + 1 - k = omega (arith, d.order) in ap (λ n. moved d.done last n (drop (i + 1) t₀)) q);
           whole =
-              d.whole
+              whole_next
               ∙ ap (λ r. d.done ++ (last ∷ r))
-              (ap (dedup_after last) (uncons t₀ i more)
-              ∙ after_same last (get_or t₀ i 0) (drop (i + 1) t₀) (sym (sym is_next ∙ e))
-              ∙ ap (λ y. dedup_after y (drop (i + 1) t₀)) (sym is_next ∙ e));
+              (after_same last (get_or t i 0) (drop (i + 1) t₀) (sym e) ∙ ap (λ y. dedup_after y (drop (i + 1) t₀)) e);
         }
 
     pub other_kept : (get_or t i 0 ≡ last → ⊥) → Deduping t₀ y j (set (set t i 0) k (get_or t i 0)) (get_or t i 0) (k + 1) (i + 1)
@@ -113,11 +114,8 @@ module _ (t₀ : List ℕ) (y j : ℕ) (t : List ℕ) (last k i : ℕ) (d : Dedu
               added d.done last (i - k) i place (get_or t₀ i 0) (drop (i + 1) t₀) t now_next (get_or t i 0) k (i + 1 - (k + 1))
               (omega (arith, d.size)) (omega (arith, d.order));
           whole =
-              d.whole
-              ∙ ap (λ r. d.done ++ (last ∷ r))
-              (ap (dedup_after last) (uncons t₀ i more)
-              ∙ after_other last (get_or t₀ i 0) (drop (i + 1) t₀) (λ q. n (is_next ∙ sym q))
-              ∙ ap (λ y. y ∷ dedup_after y (drop (i + 1) t₀)) (sym is_next))
+              whole_next
+              ∙ ap (λ r. d.done ++ (last ∷ r)) (after_other last (get_or t i 0) (drop (i + 1) t₀) (λ q. n (sym q)))
               ∙ sym (append_assoc d.done (last ∷ []) (get_or t i 0 ∷ dedup_after (get_or t i 0) (drop (i + 1) t₀)));
         }
 

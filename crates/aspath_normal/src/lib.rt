@@ -29,6 +29,8 @@ fn is_sequence(kind: u8) -> bool
 }
 
 // A segment without its numbers.
+// Stays a kind as its byte: the lists hold bytes, so a SegmentKind would be made of one and put
+// back as one, and with no SegmentKind for each byte the scan could fail.
 #[derive(Clone, Copy)]
 struct Entry {
     kind: u8,
@@ -58,6 +60,7 @@ fn merge(last: Entry, next: Entry) -> Option<Entry>
 
 // The scan of coalesce, on the kinds and the lengths of all segments. Entries move down, and a
 // place that was read is set to 0.
+// Stays by index: two places move through one list, and an iterator would lend it once.
 fn coalesce_entries(kinds: &mut [u8], lengths: &mut [u32]) -> usize
     requires { (length kinds.old ≡ length lengths.old) × (sum lengths.old ≤ 16384) }
     ensures { Coalesced kinds.old lengths.old kinds.new lengths.new result }
@@ -91,6 +94,7 @@ fn coalesce_entries(kinds: &mut [u8], lengths: &mut [u32]) -> usize
 }
 
 // AsPath::coalesce. The numbers stay where they are.
+// Stays with a record of its lists, as dedup_coalesce: a function for both would take all five.
 #[tactic(auto, using(crate::proofs::Answers::record_laws))]
 pub fn coalesce(
     kinds: &mut [u8],
@@ -120,6 +124,7 @@ pub fn coalesce(
 
 // The first number is at the front, and zeros follow it up to j: the numbers from j on move down,
 // without those that equal the one before them; the places freed are 0.
+// Stays by index, as coalesce_entries does.
 #[tactic(auto, using(crate::proofs::Deduping::equal_dropped, crate::proofs::Deduping::other_kept))]
 fn dedup_from(t: &mut [u32], first: u32, j: usize) -> usize
     requires { FirstKept t.old first j }
@@ -182,6 +187,7 @@ fn single_kind(kind: u8, length: u32) -> u8
 }
 
 // A set of one number becomes a sequence.
+// Stays with a place for the lengths: a zip hides what `iter_mut` has written, so no proof closed.
 fn single_sets(kinds: &mut [u8], lengths: &[u32])
     requires { length kinds.old ≡ length lengths.now }
     ensures { kinds.new ≡ map (λ x. single_kind x.kind x.length) (entries kinds.old lengths.now) }

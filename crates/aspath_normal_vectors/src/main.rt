@@ -1,9 +1,10 @@
-// Runs the cases of coalesce, dedup_coalesce and has_equivalent_routing (data/cases.txt, then data/three.txt) and prints a
-// line for each group.
+// Runs the cases of coalesce, dedup_coalesce and has_equivalent_routing (data/cases.txt, then
+// data/three.txt) and prints a line for each group.
 //
-// A question is a call's name (or one that begins with it) and a record: its kinds, lengths and numbers (bytes; four for each
-// number) and its two counts; for equivalence two records. Places behind the counts are lent too. `all` asks coalesce and then
-// dedup_coalesce of one record, with one digit for each kind, length and number. An answer ends with all places that were lent.
+// A question is a call's name (or one that begins with it) and a record: its kinds, lengths and
+// numbers (bytes; four for each number) and its two counts; for equivalence two records. Places
+// after the counts are lent too. `all` asks coalesce and then dedup_coalesce of one record, with
+// one digit for each kind, length and number. An answer ends with all places that were lent.
 #![tactic(auto)]
 
 use aspath::Spoilt;
@@ -38,6 +39,21 @@ fn put_equivalence(answer: Result<Equivalence, Spoilt>, out: &mut Answer) -> io:
     }
 }
 
+// The places that a record's lists have.
+fn lent(lists: &mut Lists) -> (&mut [u8], &mut [u32], &mut [u32]) {
+    let Lists {
+        kinds,
+        lengths,
+        numbers,
+        loaded,
+    } = lists;
+    (
+        cases::first_mut(kinds, loaded.kinds),
+        cases::first_mut(lengths, loaded.lengths),
+        cases::first_mut(numbers, loaded.numbers),
+    )
+}
+
 fn put_record(
     mark: &str,
     kinds: &[u8],
@@ -64,10 +80,7 @@ fn answer_call<F: Fn(&mut [u8], &mut [u32], &mut [u32], usize, usize) -> Result<
 ) -> io::Result<()>
     requires { F.IsAlwaysCallable call }
 {
-    let n = lists.loaded;
-    let kinds = path_cases::first_bytes(&mut lists.kinds, n.kinds);
-    let lengths = cases::first_mut(&mut lists.lengths, n.lengths);
-    let numbers = cases::first_mut(&mut lists.numbers, n.numbers);
+    let (kinds, lengths, numbers) = lent(&mut lists);
     let answer = call(
         kinds,
         lengths,
@@ -100,14 +113,8 @@ fn answer_all(line: &[u8], out: &mut Answer) -> io::Result<()> {
 fn answer_equivalent(line: &[u8], out: &mut Answer) -> io::Result<()> {
     let mut first = path_cases::load(line, 1);
     let mut second = path_cases::load(line, 6);
-    let n = first.loaded;
-    let n2 = second.loaded;
-    let kinds = path_cases::first_bytes(&mut first.kinds, n.kinds);
-    let lengths = cases::first_mut(&mut first.lengths, n.lengths);
-    let numbers = cases::first_mut(&mut first.numbers, n.numbers);
-    let kinds2 = path_cases::first_bytes(&mut second.kinds, n2.kinds);
-    let lengths2 = cases::first_mut(&mut second.lengths, n2.lengths);
-    let numbers2 = cases::first_mut(&mut second.numbers, n2.numbers);
+    let (kinds, lengths, numbers) = lent(&mut first);
+    let (kinds2, lengths2, numbers2) = lent(&mut second);
     let answer = aspath_equivalence::has_equivalent_routing(
         kinds,
         lengths,

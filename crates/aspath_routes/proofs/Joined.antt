@@ -2,22 +2,24 @@
 use mathlib.Core.Path.{◌≡◌, refl, sym, ap, ◌∙◌}
 use mathlib.Core.List.{List, [], ◌∷◌, ◌++◌}
 use mathlib.Core.Bool.{Bool, true, false, cond, ◌&&◌}
-use Prim.Native.Nat.{ℕ, suc, ◌+◌, ◌≤◌, ◌<◌}
+use Prim.Native.Nat.{ℕ, suc, ◌≤◌, ◌<◌}
 use native.Mathlib.Omega.{arith}
-use mir.Syntax.{w64}
-use mir.Val.{Fits}
 use lib.ListN.{length, length-append}
 use lib.Dec.{eqb}
 use borrow.Author.Tests.{le-leb, lt-leb}
 use Rattle.std.specs.Prelude.{Some, None, Ok, Err}
 use Rattle.std.specs.List.{list_all}
-use Rattle.output.specs.Output.{Written}
-use Rattle.output.proofs.Output.{Left, next_left_lem, none_left, kept, whole}
+use Rattle.std.specs.Iterator.{Drains, YieldsFirst}
+use Rattle.std.proofs.lemmas.List.{nil_from_length}
+use Rattle.std.proofs.lemmas.Iterator.Consumers.{YieldsList-from_first, count_from_yields_List}
+use Rattle.output.specs.Output.{front}
+use Rattle.output.proofs.Output.{kept}
 use Rattle.aspath.specs.Lists.{fold_map, sum}
 use Rattle.aspath.specs.Record.{Segment, cut, numbers_of}
 use Rattle.aspath.proofs.Record.{cut_numbers}
 use Rattle.aspath_routes.specs.Runs.{after, runs}
-use Rattle.aspath_routes.specs.Joined.{simple, all_simple, joined, some_numbers, to_u32_vec, Answered}
+use Rattle.aspath_routes.specs.Joined.{simple, all_simple, joined, numbers_left, some_numbers, to_u32_vec, Answered}
+use Rattle.aspath_routes.specs.declared.Numbers.{Numbers}
 use Rattle.aspath_routes.specs.declared.NumbersError.TheVariants.{FewPlaces}
 
 pub all_is : (p : List Segment) → list_all (λ x. simple x.kind (length x.numbers)) p ≡ all_simple p
@@ -48,30 +50,25 @@ joined_short d (x ∷ p) = simp length-append (omega (arith, runs_short d x.numb
 pub joined_small : (d : Bool) (ks ls ns : List ℕ) → length ns ≤ 16384 → length ls ≡ length ks → sum ls ≡ length ns → length (joined d (cut ks ls ns)) ≤ 16384
 joined_small d ks ls ns few paired summed = omega (arith, joined_short d (cut ks ls ns), ap length (cut_numbers ks ls ns (sym paired) summed))
 
--- one segment more, counted and written, and none left
-module _ (d : Bool) (left rest : List Segment) (x : Segment) (first : left ≡ x ∷ rest) where
-  joined_first : joined d left ≡ runs d x.numbers ++ joined d rest
-  unfolding fold_map
-  joined_first = rw first
+-- what is left where a segment has no more numbers: those of the next one, if there is one
+module _ (d : Bool) (part : List ℕ) (left : List Segment) (empty : length part ≡ 0) where
+  pub next_part : (rest : List Segment) (x : Segment) → left ≡ x ∷ rest → runs d part ++ joined d left ≡ runs d x.numbers ++ joined d rest
+  unfolding runs fold_map
+  next_part rest x first = rw (nil_from_length part empty, first)
 
-  module _ (all : List Segment) (n v : ℕ) (known : length (joined d all) ≡ n + length (joined d left)) (is : v ≡ length (runs d x.numbers)) where
-    pub count_step : length (joined d all) ≡ n + v + length (joined d rest)
-    count_step = omega (arith, simp length-append at (ap length joined_first))
+  pub no_part : left ≡ [] → runs d part ++ joined d left ≡ []
+  unfolding runs fold_map
+  no_part none = rw (nil_from_length part empty, none)
 
-    pub count_fits : length (joined d all) ≤ 16384 → Fits w64 (n + v)
-    count_fits small = record { fits = omega (arith, count_step) }
+-- and where it has some: the first, and what is left after it
+pub next_number : (d : Bool) (part others : List ℕ) (left : List Segment) (a : ℕ) (rest : List ℕ) → part ≡ a ∷ others → runs d rest ≡ after d a others
+    → runs d part ++ joined d left ≡ a ∷ (runs d rest ++ joined d left)
+unfolding runs
+next_number d part others left a rest first e = rw (first, e)
 
-  pub write_step : (t out₀ out o : List ℕ) (at₀ at a : ℕ) → Left t out₀ at₀ (joined d left) out at → Written (runs d x.numbers) out at o a
-      → Left t out₀ at₀ (joined d rest) o a
-  write_step t out₀ out o at₀ at a known w = next_left_lem (rw joined_first at known) w
-
-pub count_done : (d : Bool) (all left : List Segment) (n : ℕ) → length (joined d all) ≡ n + length (joined d left) → left ≡ [] → n ≡ length (joined d all)
-unfolding fold_map
-count_done d all left n known none = omega (arith, rw none at known)
-
-pub write_done : (d : Bool) (left : List Segment) (t out₀ out : List ℕ) (at₀ at : ℕ) → Left t out₀ at₀ (joined d left) out at → left ≡ [] → Written t out₀ at₀ out at
-unfolding fold_map
-write_done d left t out₀ out at₀ at known none = none_left (rw none at known)
+-- how many there are
+pub counted : (s : Numbers) (l : List ℕ) (r : ℕ) → numbers_left s ≡ l → ((xs : List ℕ) × Drains (YieldsFirst numbers_left) s xs × (r ≡ length xs)) → r ≡ length l
+counted s l r e ran = count_from_yields_List s r ran (YieldsList-from_first (λ x. x) numbers_left l e)
 
 -- what the call answers and leaves in the places
 module _ (d : Bool) (p : List Segment) (out : List ℕ) where
@@ -104,5 +101,5 @@ module _ (d : Bool) (p : List Segment) (out : List ℕ) where
         pub vec_few : length out < m → Answered d (Some p) out (Err FewPlaces) out
         vec_few h = record { told = rw vec_is (simp (← g, lt-leb m (length out) h)); left = rw vec_is (kept (joined d p) out m g h) }
 
-        pub vec_written : m ≤ length out → (new : List ℕ) (a : ℕ) → Written (joined d p) out 0 new a → Answered d (Some p) out (Ok (Some m)) new
-        vec_written h new a w = record { told = rw vec_is (simp (← g, le-leb m (length out) h)); left = rw vec_is (whole (joined d p) out m g new a h w) }
+        pub vec_written : m ≤ length out → (new : List ℕ) → new ≡ front (joined d p) out → Answered d (Some p) out (Ok (Some m)) new
+        vec_written h new w = record { told = rw vec_is (simp (← g, le-leb m (length out) h)); left = rw vec_is w }

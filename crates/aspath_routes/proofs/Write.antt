@@ -1,42 +1,27 @@
 -- Laws of writing a route.
 use mathlib.Core.Path.{◌≡◌, refl}
 use mathlib.Core.List.{List, [], ◌∷◌, ◌++◌}
-use mathlib.Core.Bool.{false}
-use mathlib.Core.Logic.{◌⊎◌, ⊎_elim}
-use Prim.Native.Nat.{ℕ, ◌/◌, ◌%◌, ◌<◌}
-use native.Mathlib.Nat.{mod-lt, pos_of_ne-zero}
+use Prim.Native.Nat.{ℕ, ◌+◌, ◌/◌, ◌%◌, ◌<◌, min}
+use native.Mathlib.Nat.{mod-lt, pos_of_ne-zero, zero-add, sub-zero}
 use native.Mathlib.Omega.{arith}
-use lib.ListN.{length, get_or}
+use lib.ListN.{length, get_or, take, drop, set}
 use borrow.Author.Tests.{le-ltb, lt-ltb}
-use Rattle.output.specs.Output.{Written}
-use Rattle.output.proofs.Output.{nothing, Left, next_left_lem, none_left}
+use Rattle.output.specs.Output.{room, overwrite, Written}
+use Rattle.output.proofs.Output.{Left, next_left_lem, none_left, byte_written}
 use Rattle.aspath.specs.Record.{Segment}
-use Rattle.aspath.specs.Segments.{kind_number}
-use Rattle.aspath.specs.declared.SegmentKind.{SegmentKind}
-use Rattle.aspath.specs.declared.SegmentKind.TheVariants.{AsSequence, ConfedSequence, ConfedSet}
-use Rattle.aspath_routes.specs.Runs.{after, runs}
 use Rattle.aspath_routes.specs.Routes.{taken, left, numbered}
 
--- with no repeats to drop all numbers stay
-after_all : (a : ℕ) (s : List ℕ) → after false a s ≡ s
-unfolding after
-after_all a [] = refl
-after_all a (b ∷ s) = rw (after_all b s)
+-- as many numbers as there are places for
+pub copied : (t out new : List ℕ) (n : ℕ) → n ≡ min (length t) (length out) → new ≡ take n t → Written t out 0 (new ++ drop n out) n
+unfolding overwrite room
+copied t out new n e f = record { list = rw (f, e) (simp (zero-add, sub-zero)); place = omega (arith, e) }
 
-pub runs_all : (s : List ℕ) → runs false s ≡ s
-unfolding runs
-runs_all [] = refl
-runs_all (a ∷ s) = rw (after_all a s)
+-- and one by one
+pub next_written : (t out₀ out left rest : List ℕ) (at a : ℕ) → Left t out₀ 0 left out at → left ≡ a ∷ rest → at < length out
+    → Left t out₀ 0 rest (set out at a) (at + 1)
+next_written t out₀ out left rest at a known first h = next_left_lem {t = a ∷ []} (rw first at known) (byte_written a out at h)
 
--- what a route takes from a sequence, and from a confederation's segment
-module _ (kind : SegmentKind) (part : List ℕ) (k : ℕ) (out o : List ℕ) (at a : ℕ) where
-  pub taken_sequence : kind ≡ AsSequence → Written (runs false part) out at o a → Written (taken (kind_number kind) part k) out at o a
-  taken_sequence e w = rw (e, ← runs_all part) w
-
-  pub taken_nothing : (kind ≡ ConfedSequence) ⊎ (kind ≡ ConfedSet) → Written (taken (kind_number kind) part k) out at out at
-  taken_nothing e = ⊎_elim (λ z. rw z (nothing out at)) (λ z. rw z (nothing out at)) e
-
--- and from a set
+-- what a route takes from a set
 pub none_taken : (part : List ℕ) (k : ℕ) → length part ≡ 0 → get_or part (k % length part) 0 ≡ 0
 none_taken [] k e = refl
 none_taken (b ∷ part) k e = absurd (omega arith)

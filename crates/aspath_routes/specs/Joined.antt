@@ -1,9 +1,11 @@
 -- AsPath::to_u32_vec_opt: a path's numbers as one list, where it is that simple.
-use Rattle.std.specs.Prelude.{ℕ, ◌≡◌, List, [], ◌∷◌, Bool, true, cond, ◌&&◌, ◌||◌, length, leb, eqb, Option, Some, None, Result, Ok, Err}
+use Rattle.std.specs.Prelude.{ℕ, ◌≡◌, List, [], ◌∷◌, ◌++◌, Bool, true, cond, ◌&&◌, ◌||◌, length, leb, eqb, Option, Some, None, Result, Ok, Err}
 use Rattle.output.specs.Output.{front}
 use Rattle.aspath.specs.Lists.{fold_map, concat_of}
 use Rattle.aspath.specs.Record.{Segment}
+use Rattle.aspath.specs.Segments.{segments_left}
 use Rattle.aspath_routes.specs.Runs.{runs}
+use Rattle.aspath_routes.specs.declared.Numbers.{Numbers}
 use Rattle.aspath_routes.specs.declared.NumbersError.{NumbersError}
 use Rattle.aspath_routes.specs.declared.NumbersError.TheVariants.{FewPlaces, Spoilt}
 
@@ -17,6 +19,10 @@ all_simple = fold_map ◌&&◌ true (λ x. simple x.kind (length x.numbers))
 -- the numbers of all segments; repeats go within a segment only
 abbrev pub joined : Bool → List Segment → List ℕ
 joined dedup = concat_of (λ x. runs dedup x.numbers)
+
+-- those that an iterator has left
+abbrev pub numbers_left : Numbers → List ℕ
+numbers_left j = runs j.dedup j.numbers.now ++ joined j.dedup (segments_left j.segments)
 
 -- a list that is empty is none
 abbrev pub some_numbers : List ℕ → Option (List ℕ)

@@ -1,5 +1,5 @@
 -- Vec::dedup, where it is asked for: of equal neighbours the first stays.
-use Rattle.std.specs.Prelude.{ℕ, List, [], ◌∷◌, Bool, true, cond, not, ◌&&◌, eqb, Option, Some, None}
+use Rattle.std.specs.Prelude.{ℕ, List, [], ◌∷◌, Bool, cond, ◌&&◌, eqb}
 
 -- what stays of the numbers behind prev
 unfoldable pub after : Bool → ℕ → List ℕ → List ℕ
@@ -9,8 +9,3 @@ after dedup prev (a ∷ l) = let r = after dedup a l in cond (dedup && eqb a pre
 unfoldable pub runs : Bool → List ℕ → List ℕ
 runs dedup [] = []
 runs dedup (a ∷ l) = a ∷ after dedup a l
-
--- whether a number stays behind the one before it, if any
-abbrev pub stays : Bool → Option ℕ → ℕ → Bool
-stays dedup None a = true
-stays dedup (Some prev) a = not (dedup && eqb a prev)

@@ -1,14 +1,14 @@
 // A path's numbers written into lent places.
 #![tactic(auto)]
 
-ghost use Rattle.std.specs.Prelude.{◌≡◌, [], ◌∷◌, length};
-ghost use Rattle.output.specs.Output.{Written};
+ghost use Rattle.std.specs.Prelude.{◌≡◌, ◌≤◌, length};
+ghost use Rattle.output.specs.Output.{Written, front};
 ghost use Rattle.aspath.specs.Segments.{kind_number, segments_in, path_of};
-ghost use Rattle.aspath_routes.specs.Runs.{stays, runs};
-ghost use Rattle.aspath_routes.specs.Joined.{simple, all_simple, joined, Answered};
+ghost use Rattle.aspath_routes.specs.Runs.{after, runs};
+ghost use Rattle.aspath_routes.specs.Joined.{simple, all_simple, joined, numbers_left, Answered};
 ghost use Rattle.aspath_routes.specs.Routes.{taken, left, numbered, Routed};
 
-use aspath::{AsPath, PathRecord, Segment, SegmentKind, Spoilt, VariationsError};
+use aspath::{AsPath, PathRecord, Segment, SegmentKind, Segments, Spoilt, VariationsError};
 
 #[derive(Debug, Clone, Copy, PartialEq, Eq)]
 pub enum NumbersError {
@@ -57,55 +57,75 @@ impl From<VariationsError> for RouteError {
     }
 }
 
-// Writes one number, where there is a place (output's Written).
-fn write_number(a: u32, out: &mut [u32]) -> usize
-    ensures { Written (a ∷ []) out.old 0 out.new result }
+// Writes numbers, as many as there are places for (output's Written).
+fn write_numbers(numbers: &[u32], out: &mut [u32]) -> usize
+    ensures { Written numbers.now out.old 0 out.new result }
 {
-    if out.len() == 0 {
-        return 0;
-    }
-    out[0] = a;
-    1
-}
-
-// Whether a number stays behind the one before it, if any.
-fn stays(dedup: bool, previous: Option<u32>, number: u32) -> bool
-    ensures { result ≡ stays dedup previous number }
-{
-    match previous {
-        Some(last) => !(dedup & (number == last)),
-        None => true,
-    }
-}
-
-fn count_runs(numbers: &[u32], dedup: bool) -> usize
-    ensures { result ≡ length (runs dedup numbers.now) }
-{
-    let mut previous = None;
-    let mut n = 0;
-    for number in numbers {
-        let kept = stays(dedup, previous, *number);
-        previous = Some(*number);
-        if kept {
-            n += 1;
-        }
-    }
+    let n = numbers.len().min(out.len());
+    out[..n].copy_from_slice(&numbers[..n]);
     n
 }
 
-fn write_runs(numbers: &[u32], dedup: bool, out: &mut [u32]) -> usize
-    ensures { Written (runs dedup numbers.now) out.old 0 out.new result }
-{
-    let mut previous = None;
-    let mut place = 0;
-    for number in numbers {
-        let kept = stays(dedup, previous, *number);
-        previous = Some(*number);
-        if kept {
-            place += write_number(*number, &mut out[place..]);
+// The numbers of a path in order; with `dedup`, of equal neighbours in a segment the first.
+#[derive(Clone, Copy)]
+struct Numbers<'a> {
+    dedup: bool,
+    // what is left of one segment, and the segments after it
+    numbers: &'a [u32],
+    segments: Segments<'a>,
+}
+
+impl<'a> Numbers<'a> {
+    fn new(path: AsPath<'a>, dedup: bool) -> Numbers<'a>
+        ensures { numbers_left result ≡ joined dedup (segments_in path.entry) }
+    {
+        Numbers {
+            dedup,
+            numbers: &[],
+            segments: path.segments(),
         }
     }
-    place
+
+    // What is to be given of the numbers after the first: with `dedup`, not those that equal it.
+    fn after(self, first: u32, others: &'a [u32]) -> &'a [u32]
+        ensures { runs self.entry.dedup result.now ≡ after self.entry.dedup first others.now }
+    {
+        if !self.dedup {
+            return others;
+        }
+        let equal = others.iter().take_while(|number| **number == first).count();
+        &others[equal..]
+    }
+
+    // Writes them to places that suffice.
+    fn write(self, out: &mut [u32])
+        requires { length (numbers_left self) ≤ length out.old }
+        ensures { out.new ≡ front (numbers_left self.entry) out.old }
+    {
+        for (place, number) in self.enumerate() {
+            out[place] = number;
+        }
+    }
+}
+
+impl Iterator for Numbers<'_> {
+    ghost use Rattle.std.specs.Iterator.{YieldsFirst, item_count};
+
+    type Item = u32;
+
+    ghost next_gives = { YieldsFirst numbers_left };
+
+    ghost remaining = { item_count numbers_left };
+
+    fn next(&mut self) -> Option<u32> {
+        // Stays a while: it counts no index, and with `find` the test would be written twice.
+        while self.numbers.is_empty() {
+            self.numbers = self.segments.next()?.numbers;
+        }
+        let (first, others) = self.numbers.split_first()?;
+        self.numbers = self.after(*first, others);
+        Some(*first)
+    }
 }
 
 // Whether a segment is a list of numbers.
@@ -125,26 +145,6 @@ fn is_simple(path: AsPath) -> bool
     path.segments().all(|segment| is_list(segment))
 }
 
-fn count_joined(path: AsPath, dedup: bool) -> usize
-    ensures { result ≡ length (joined dedup (segments_in path.entry)) }
-{
-    let mut n = 0;
-    for segment in path.segments() {
-        n += count_runs(segment.numbers, dedup);
-    }
-    n
-}
-
-fn write_joined(path: AsPath, dedup: bool, out: &mut [u32]) -> usize
-    ensures { Written (joined dedup (segments_in path.entry)) out.old 0 out.new result }
-{
-    let mut place = 0;
-    for segment in path.segments() {
-        place += write_runs(segment.numbers, dedup, &mut out[place..]);
-    }
-    place
-}
-
 pub fn to_u32_vec_opt(
     lent: PathRecord,
     dedup: bool,
@@ -156,7 +156,8 @@ pub fn to_u32_vec_opt(
     if !is_simple(path) {
         return Ok(None);
     }
-    let n = count_joined(path, dedup);
+    let numbers = Numbers::new(path, dedup);
+    let n = numbers.count();
     let none = n == 0;
     if none {
         return Ok(None);
@@ -164,24 +165,24 @@ pub fn to_u32_vec_opt(
     if out.len() < n {
         return Err(NumbersError::FewPlaces);
     }
-    write_joined(path, dedup, out);
+    numbers.write(out);
     Ok(Some(n))
 }
 
 // What route k takes from a segment.
-fn write_taken(segment: Segment, k: u64, out: &mut [u32]) -> usize
-    ensures { Written (taken (kind_number segment.entry.kind) segment.entry.numbers.now k) out.old 0 out.new result }
+fn taken<'a>(segment: Segment<'a>, k: u64) -> &'a [u32]
+    ensures { result.now ≡ taken (kind_number segment.entry.kind) segment.entry.numbers.now k }
 {
     match segment.kind {
-        SegmentKind::AsSequence => write_runs(segment.numbers, false, out),
+        SegmentKind::AsSequence => segment.numbers,
         SegmentKind::AsSet => {
-            if segment.numbers.len() == 0 {
-                return write_number(0, out);
+            if segment.numbers.is_empty() {
+                return &[0];
             }
-            let j = k % (segment.numbers.len() as u64);
-            write_number(segment.numbers[j as usize], out)
+            let j = (k % segment.numbers.len() as u64) as usize;
+            &segment.numbers[j..j + 1]
         }
-        SegmentKind::ConfedSequence | SegmentKind::ConfedSet => 0,
+        SegmentKind::ConfedSequence | SegmentKind::ConfedSet => &[],
     }
 }
 
@@ -202,7 +203,7 @@ fn write_route(path: AsPath, number: u64, out: &mut [u32]) -> usize
     let mut place = 0;
     let mut k = number;
     for segment in path.segments() {
-        place += write_taken(segment, k, &mut out[place..]);
+        place += write_numbers(taken(segment, k), &mut out[place..]);
         k = left_of(segment, k);
     }
     place

@@ -12,8 +12,8 @@ use aspath_display::DisplayError;
 use aspath_routes::{NumbersError, RouteError};
 use cases::{Answer, InHex, Marked, Program};
 use path_cases::Lists;
-use std::io;
 use std::io::Write;
+use std::{fmt, io};
 
 // 01's number of a refusal.
 trait Refusal: Copy {
@@ -64,44 +64,21 @@ impl Refusal for DisplayError {
     }
 }
 
-fn put_refusal<E: Refusal>(e: E, out: &mut Answer) -> io::Result<()> {
-    write!(out, "refused {}", e.number())
-}
-
-fn put_count<E: Refusal>(r: Result<usize, E>, out: &mut Answer) -> io::Result<()> {
+fn put<T: fmt::Display + Drop, E: Refusal>(r: Result<T, E>, out: &mut Answer) -> io::Result<()> {
     match r {
-        Ok(n) => write!(out, "{n}"),
-        Err(e) => put_refusal(e, out),
+        Ok(v) => write!(out, "{v}"),
+        Err(e) => write!(out, "refused {}", e.number()),
     }
 }
 
-fn put_variations(r: Result<u64, VariationsError>, out: &mut Answer) -> io::Result<()> {
+fn put_option<T: fmt::Display + Drop, E: Refusal>(
+    r: Result<Option<T>, E>,
+    out: &mut Answer,
+) -> io::Result<()> {
     match r {
-        Ok(n) => write!(out, "{n}"),
-        Err(e) => put_refusal(e, out),
-    }
-}
-
-fn put_contains(r: Result<bool, Spoilt>, out: &mut Answer) -> io::Result<()> {
-    match r {
-        Ok(yes) => write!(out, "{}", cases::yes_no(yes)),
-        Err(e) => put_refusal(e, out),
-    }
-}
-
-fn put_end(r: Result<Option<u32>, Spoilt>, out: &mut Answer) -> io::Result<()> {
-    match r {
-        Ok(Some(n)) => write!(out, "{n}"),
         Ok(None) => write!(out, "none"),
-        Err(e) => put_refusal(e, out),
-    }
-}
-
-fn put_vec(r: Result<Option<usize>, NumbersError>, out: &mut Answer) -> io::Result<()> {
-    match r {
-        Ok(Some(n)) => write!(out, "{n}"),
-        Ok(None) => write!(out, "none"),
-        Err(e) => put_refusal(e, out),
+        Ok(Some(v)) => write!(out, "{v}"),
+        Err(e) => write!(out, "refused {}", e.number()),
     }
 }
 
@@ -114,20 +91,23 @@ fn ask(
     out: &mut Answer,
 ) -> io::Result<()> {
     if scan::starts_with(name, b"route_len") {
-        return put_count(record.route_len(), out);
+        return put(record.route_len(), out);
     }
     if scan::starts_with(name, b"variations") {
-        return put_variations(record.num_route_variations(), out);
+        return put(record.num_route_variations(), out);
     }
     if scan::starts_with(name, b"contains") {
         let asn = (arg % 4294967296) as u32;
-        return put_contains(aspath_numbers::contains_asn(record, asn), out);
+        return put(
+            aspath_numbers::contains_asn(record, asn).map(cases::yes_no),
+            out,
+        );
     }
     if scan::starts_with(name, b"origin") {
-        return put_end(aspath_numbers::get_origin_opt(record), out);
+        return put_option(aspath_numbers::get_origin_opt(record), out);
     }
     if scan::starts_with(name, b"collector") {
-        return put_end(aspath_numbers::get_collector_opt(record), out);
+        return put_option(aspath_numbers::get_collector_opt(record), out);
     }
     write(name, record, arg, places, out)
 }
@@ -142,12 +122,12 @@ fn write(
 ) -> io::Result<()> {
     if scan::starts_with(name, b"u32vec") {
         let r = aspath_routes::to_u32_vec_opt(record, arg == 1, places);
-        put_vec(r, out)?;
+        put_option(r, out)?;
         return write!(out, "{}", Marked(",", places));
     }
     if scan::starts_with(name, b"route") {
         let r = aspath_routes::numbered_route(record, arg as u64, places);
-        put_count(r, out)?;
+        put(r, out)?;
         return write!(out, "{}", Marked(",", places));
     }
     Ok(())
@@ -156,7 +136,7 @@ fn write(
 // Display: the answer, and all bytes that were lent.
 fn show(record: PathRecord, bytes: &mut [u8], out: &mut Answer) -> io::Result<()> {
     let r = aspath_display::display(record, bytes);
-    put_count(r, out)?;
+    put(r, out)?;
     write!(out, " {}", InHex(bytes))
 }
 
@@ -164,21 +144,24 @@ fn show(record: PathRecord, bytes: &mut [u8], out: &mut Answer) -> io::Result<()
 // get_origin_opt, get_collector_opt; to_u32_vec_opt without and with dedup; Display; every route,
 // and the one behind the last.
 fn all_counts(record: PathRecord, out: &mut Answer) -> io::Result<()> {
-    put_count(record.route_len(), out)?;
+    put(record.route_len(), out)?;
     write!(out, "|")?;
-    put_variations(record.num_route_variations(), out)
+    put(record.num_route_variations(), out)
 }
 
 fn all_contains(record: PathRecord, asn: u32, out: &mut Answer) -> io::Result<()> {
     write!(out, "|")?;
-    put_contains(aspath_numbers::contains_asn(record, asn), out)
+    put(
+        aspath_numbers::contains_asn(record, asn).map(cases::yes_no),
+        out,
+    )
 }
 
 fn all_ends(record: PathRecord, out: &mut Answer) -> io::Result<()> {
     write!(out, "|")?;
-    put_end(aspath_numbers::get_origin_opt(record), out)?;
+    put_option(aspath_numbers::get_origin_opt(record), out)?;
     write!(out, "|")?;
-    put_end(aspath_numbers::get_collector_opt(record), out)
+    put_option(aspath_numbers::get_collector_opt(record), out)
 }
 
 fn all_reading(record: PathRecord, out: &mut Answer) -> io::Result<()> {
@@ -200,7 +183,7 @@ fn all_vec(
 ) -> io::Result<()> {
     write!(out, "|")?;
     let r = aspath_routes::to_u32_vec_opt(record, dedup, places);
-    put_vec(r, out)?;
+    put_option(r, out)?;
     let Ok(Some(n)) = r else {
         return Ok(());
     };
@@ -211,7 +194,7 @@ fn all_shown(record: PathRecord, bytes: &mut [u8], out: &mut Answer) -> io::Resu
     write!(out, "|")?;
     let r = aspath_display::display(record, bytes);
     let Ok(n) = r else {
-        return put_count(r, out);
+        return put(r, out);
     };
     out.write_all(cases::part(bytes, 0, n))
 }
@@ -226,11 +209,11 @@ fn all_route(
     let r = aspath_routes::numbered_route(record, number, places);
     match r {
         Ok(n) => {
-            put_count(r, out)?;
+            put(r, out)?;
             put_written(places, n, out)
         }
         Err(RouteError::NoSuchRoute) => write!(out, "-"),
-        Err(_) => put_count(r, out),
+        Err(_) => put(r, out),
     }
 }
 
@@ -272,8 +255,8 @@ fn load(line: &[u8]) -> Lists {
 fn record_of<'a>(lists: &'a Lists, line: &[u8]) -> PathRecord<'a> {
     PathRecord {
         kinds: cases::part(&lists.kinds, 0, lists.loaded.kinds),
-        lengths: path_cases::first_numbers(&lists.lengths, lists.loaded.lengths),
-        numbers: path_cases::first_numbers(&lists.numbers, lists.loaded.numbers),
+        lengths: cases::first(&lists.lengths, lists.loaded.lengths),
+        numbers: cases::first(&lists.numbers, lists.loaded.numbers),
         segments: cases::number(line, 4),
         count: cases::number(line, 5),
     }
@@ -292,10 +275,10 @@ impl Program for PathCases {
         let mut bytes = [0; 4096];
         let lent = cases::first_mut(&mut places, room);
         if scan::same(name, b"all") {
-            return all(record, lent, path_cases::first_bytes(&mut bytes, arg), out);
+            return all(record, lent, cases::first_mut(&mut bytes, arg), out);
         }
         if scan::starts_with(name, b"display") {
-            return show(record, path_cases::first_bytes(&mut bytes, room), out);
+            return show(record, cases::first_mut(&mut bytes, room), out);
         }
         ask(name, record, arg, lent, out)
     }

@@ -1,4 +1,5 @@
-// The Gregorian calendar: which dates there are, and how many days lie before them, counted from 0000-01-01.
+// The Gregorian calendar: which dates there are, and how many days lie before them, counted from
+// 0000-01-01.
 #![tactic(auto)]
 
 ghost use Rattle.std.specs.Prelude.{◌≡◌, ◌≤◌, ◌<◌};

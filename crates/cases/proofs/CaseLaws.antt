@@ -1,7 +1,5 @@
 -- Laws of a case's answer.
-use lib.Ieee.{binary64, nan_bits}
-use lib.Ieee.Bits.{nan_bits_above}
-use Rattle.std.proofs.Common.{◌≡◌, ℕ, ◌+◌, ◌-◌, ◌%◌, ◌≤◌, ◌==◌, Bool, true, false, not, cond, eqb, nat_lt, Some, None, position, List, [], ◌∷◌, length, take, drop, sym, refl, ◌∙◌, zero-add, arith, length-drop, drop_of_length-le, take_all, ne_eqb, T, subst, le-ltb}
+use Rattle.std.proofs.Common.{◌≡◌, ℕ, ◌+◌, ◌-◌, ◌≤◌, ◌==◌, Bool, true, false, not, cond, eqb, nat_lt, Some, None, position, List, [], ◌∷◌, length, take, drop, sym, refl, ◌∙◌, zero-add, arith, length-drop, drop_of_length-le, take_all, ne_eqb}
 use Rattle.std.specs.List.{position_or_len}
 use Rattle.std.proofs.lemmas.List.Recursion.{is_position_or_len}
 use Rattle.std.proofs.lemmas.Bool.Decides.{nat_tests}
@@ -49,7 +47,3 @@ module _ (s got : List ℕ) where
       nothing : (l : List ℕ) → eqb (length l) 0 ≡ equal [] l
       nothing [] = refl
       nothing (x ∷ l) = ne_eqb (length (x ∷ l)) 0 (λ z. omega arith)
-
--- bits that are no NaN's
-pub of_number : (n : ℕ) → n % 0x8000_0000_0000_0000 ≤ 0x7ff0_0000_0000_0000 → T (not (nan_bits binary64 n))
-of_number n h = subst (λ (b : Bool). T (not b)) (sym (nan_bits_above binary64 n ∙ le-ltb _ _ h)) tt

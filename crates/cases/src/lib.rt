@@ -91,16 +91,10 @@ fn tab_at(line: &[u8]) -> Option<usize>
 }
 
 // The float whose bits these are, or none for those of a NaN.
-#[tactic(auto, using(crate::proofs::CaseLaws::of_number))]
 pub fn float(bits: u64) -> Option<f64>
     ensures { result ≡ float_of bits }
 {
-    let nan = bits % 0x8000_0000_0000_0000 > 0x7ff0_0000_0000_0000;
-    if nan {
-        None
-    } else {
-        Some(f64::from_bits(bits))
-    }
+    seconds::float_of_bits(bits)
 }
 
 // Whether the case's answer is `got`.

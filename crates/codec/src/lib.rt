@@ -201,36 +201,36 @@ pub fn element_words(e: Element) -> [u64; 22]
 }
 
 #[tactic(auto, using(crate::proofs::Reading::v6_told, crate::proofs::Reading::v4_fits, crate::proofs::Reading::v4_told, crate::proofs::Reading::no_address))]
-fn address_of(kind: u64, upper: u64, lower: u64) -> Option<IpAddr>
-    ensures { result ≡ address_of kind upper lower }
+fn address_of(w: AddressWords) -> Option<IpAddr>
+    ensures { result ≡ address_of w.kind w.upper w.lower }
 {
-    if kind == 1 {
-        return Some(IpAddr::V6(upper, lower));
+    if w.kind == 1 {
+        return Some(IpAddr::V6(w.upper, w.lower));
     }
-    if (kind == 0) & (upper == 0) & (lower <= 0xffff_ffff) {
-        return Some(IpAddr::V4(lower as u32));
+    if (w.kind == 0) & (w.upper == 0) & (w.lower <= 0xffff_ffff) {
+        return Some(IpAddr::V4(w.lower as u32));
     }
     None
 }
 
 #[tactic(auto, using(crate::proofs::Reading::no_prefix, crate::proofs::Reading::too_long, crate::proofs::Reading::valid_told, crate::proofs::Reading::in_use, crate::proofs::Reading::nothing_told, crate::proofs::Reading::invalid_told, crate::proofs::Reading::no_kind))]
-fn remembered_of(remembered: u64, kind: u64, upper: u64, lower: u64, len: u64) -> Option<Remembered>
-    ensures { result ≡ remembered_of remembered kind upper lower len }
+fn remembered_of(w: RememberedWords) -> Option<Remembered>
+    ensures { result ≡ remembered_of w.kind w.addr.kind w.addr.upper w.addr.lower w.len }
 {
-    if remembered == 2 {
-        let addr = address_of(kind, upper, lower)?;
-        if 255 < len {
+    if w.kind == 2 {
+        let addr = address_of(w.addr)?;
+        if 255 < w.len {
             return None;
         }
         return Some(Remembered::Valid(NetworkPrefix {
             addr,
-            len: len as u8,
+            len: w.len as u8,
         }));
     }
-    if !((kind == 0) & (upper == 0) & (lower == 0) & (len == 0)) {
+    if !((w.addr.kind == 0) & (w.addr.upper == 0) & (w.addr.lower == 0) & (w.len == 0)) {
         return None;
     }
-    match remembered {
+    match w.kind {
         0 => Some(Remembered::Nothing),
         1 => Some(Remembered::Invalid),
         _ => None,
@@ -241,10 +241,7 @@ fn remembered_of(remembered: u64, kind: u64, upper: u64, lower: u64, len: u64) -
 fn float_of(bits: u64) -> f64
     ensures { result ≡ of_bits binary64 bits }
 {
-    if bits % 0x8000_0000_0000_0000 > 0x7ff0_0000_0000_0000 {
-        return 0.0 / 0.0;
-    }
-    f64::from_bits(bits)
+    seconds::float_of_bits(bits).unwrap_or(0.0 / 0.0)
 }
 
 // The state that the words spell with any bits as its timestamp; None where they spell none. It is
@@ -253,12 +250,26 @@ fn float_of(bits: u64) -> f64
 pub fn state_but_time(w: &[u64; 16]) -> Option<State>
     ensures { result ≡ state_but_time w.now }
 {
-    let peer_ip = address_of(w[5], w[6], w[7])?;
+    let peer = AddressWords {
+        kind: w[5],
+        upper: w[6],
+        lower: w[7],
+    };
+    let peer_ip = address_of(peer)?;
     if 0xffff_ffff < w[8] {
         return None;
     }
     let timestamp = float_of(w[9]);
-    let remembered = remembered_of(w[10], w[11], w[12], w[13], w[14])?;
+    let memory = RememberedWords {
+        kind: w[10],
+        addr: AddressWords {
+            kind: w[11],
+            upper: w[12],
+            lower: w[13],
+        },
+        len: w[14],
+    };
+    let remembered = remembered_of(memory)?;
     let columns = Columns {
         next_hop: w[0] as usize,
         metric: w[1] as usize,

@@ -1,4 +1,5 @@
-// The calls that collector_c exports to other languages: numbers and byte slices alone. State and element cross as bytes of fixed lengths (docs/LAYOUT.md).
+// The calls that collector_c exports to other languages: numbers and byte slices alone. State and
+// element cross as bytes of fixed lengths (docs/LAYOUT.md).
 // Stays numbers, what the calls answer: the C interface has no enums of ours (docs/LAYOUT.md).
 #![tactic(auto)]
 
@@ -35,7 +36,8 @@ fn holds_state(state: &[u8]) -> bool
     codec::is_state(&words)
 }
 
-// With any bits as its timestamp: they are left to next, which refuses a state whose timestamp is none, as it refuses bytes that spell no state.
+// With any bits as its timestamp: they are left to next, which refuses a state whose timestamp is
+// none, as it refuses bytes that spell no state.
 fn get_state(state: &[u8]) -> Option<State>
     requires { 128 ≤ length state.now }
     ensures { result ≡ state_but_time (words_in 16 state.now) }

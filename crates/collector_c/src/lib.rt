@@ -1,5 +1,5 @@
-// The calls of collector, exported to C (include/fernweeks.h): numbers and byte slices alone, a slice being a pointer and a count.
-// Each says again what the call of the same name says.
+// The calls of collector, exported to C (include/fernweeks.h): numbers and byte slices alone, a
+// slice being a pointer and a count. Each says again what the call of the same name says.
 #![tactic(auto)]
 
 ghost use Rattle.std.specs.Prelude.{◌≡◌, cond};

@@ -81,11 +81,8 @@ pub fn parse_column_header(line: &[u8]) -> Option<Columns>
 pub fn shift_columns_left(c: Columns) -> Option<Columns>
     ensures { result ≡ shift_left c }
 {
-    if c.next_hop == 0 {
-        return None;
-    }
     Some(Columns {
-        next_hop: c.next_hop - 1,
+        next_hop: c.next_hop.checked_sub(1)?,
         metric: c.metric.saturating_sub(1),
         local_pref: c.local_pref.saturating_sub(1),
         weight: c.weight.saturating_sub(1),

@@ -31,10 +31,7 @@ pub fn read_digits(s: &[u8]) -> Option<u64>
         if i < DIGITS_THAT_FIT {
             v = v * 10 + digit;
         } else {
-            let Some(next) = with_digit(v, digit) else {
-                return None;
-            };
-            v = next;
+            v = with_digit(v, digit)?;
         }
     }
     Some(v)
@@ -53,13 +50,8 @@ pub fn read_u64(s: &[u8]) -> Option<u64>
 pub fn read_u32(s: &[u8]) -> Option<u32>
     ensures { result ≡ read_u32 s.now }
 {
-    let Some(n) = read_u64(s) else {
-        return None;
-    };
-    match u32::try_from(n) {
-        Ok(n) => Some(n),
-        Err(_) => None,
-    }
+    let n = read_u64(s)?;
+    u32::try_from(n).ok()
 }
 
 // What some digits make, and the place behind them.
@@ -70,6 +62,8 @@ pub fn digits_at(s: &[u8], at: usize) -> Option<(u32, usize)>
     ensures { result ≡ digits_at s.now at }
 {
     let mut v = 0;
+    // Stays a loop over places: with `enumerate().skip(at)` the proof knows no place, and it did not
+    // close.
     for i in at..s.len() {
         let b = s[i];
         if !b.is_ascii_digit() {
@@ -83,8 +77,9 @@ pub fn digits_at(s: &[u8], at: usize) -> Option<(u32, usize)>
     Some((v, at.max(s.len())))
 }
 
-// The highest bit of each byte of a word that is no digit. With the bits of '0' taken out a digit is 0 to 9, and with 118 more the other
-// bytes below 128 reach 128: none reaches 256, so no byte carries into the next.
+// The highest bit of each byte of a word that is no digit. With the bits of '0' taken out a digit
+// is 0 to 9, and with 118 more the other bytes below 128 reach 128: none reaches 256, so no byte
+// carries into the next.
 fn marks(w: u64) -> u64
     ensures { result ≡ number (map mark (little_endian w)) }
 {
@@ -99,8 +94,8 @@ pub fn digit_count(w: u64) -> usize
     (u64::trailing_zeros(marks(w)) / 8) as usize
 }
 
-// The number whose eight digits are a word's bytes, each as a number: they are joined to twos, those to fours and those to eight, each time
-// all at once.
+// The number whose eight digits are a word's bytes, each as a number: they are joined to twos,
+// those to fours and those to eight, each time all at once.
 fn joined(ones: u64) -> u32
     requires { (i : ℕ) → get_or (little_endian ones) i 0 < 10 }
     ensures { result ≡ placed 0 (little_endian ones) }
@@ -110,7 +105,8 @@ fn joined(ones: u64) -> u32
     ((fours * 10000 + (fours >> 32)) & 0xFFFF_FFFF) as u32
 }
 
-// What the n digits at the front make: they are shifted to the word's end, which puts digits 0 in front of them.
+// What the n digits at the front make: they are shifted to the word's end, which puts digits 0 in
+// front of them.
 fn digits_value(w: u64, n: usize) -> u32
     requires { (n ≡ length (leading (little_endian w))) × (0 < n) }
     ensures { result ≡ or_zero (behind 0 (leading (little_endian w))) }

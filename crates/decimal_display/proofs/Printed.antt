@@ -133,6 +133,14 @@ pub positive_length : (a b len : ℕ) → b ≤ a → len ≡ length (decimal (a
 unfolding difference
 positive_length a b len h e = simp (le-ltb a b h) e
 
+-- of numbers of 64 bits it has at most 20 digits and a sign
+pub difference_le : (a b : ℕ) → a < 2 ^ 64 → b < 2 ^ 64 → length (difference a b) ≤ 21
+difference_le a b h i = go (ltb a b) refl
+  where
+    go : (t : Bool) → ltb a b ≡ t → length (difference a b) ≤ 21
+    go true e = omega (arith, negative_length a b _ (ltb-true a b e) refl, digits_most 19 (b - a) (omega arith))
+    go false e = omega (arith, positive_length a b _ (ltb-false a b e) refl, digits_most 19 (a - b) (omega arith))
+
 pub negative_written : (a b : ℕ) (w₀ w₁ w₂ : Writer) → a < b → Writes (45 ∷ []) w₀ w₁ → Writes (decimal (b - a)) w₁ w₂ → Writes (difference a b) w₀ w₂
 unfolding difference
 negative_written a b w₀ w₁ w₂ h v w = simp (lt-ltb a b h) (then v w)

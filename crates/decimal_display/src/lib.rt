@@ -134,12 +134,13 @@ pub fn difference_len(a: u64, b: u64) -> usize
 pub fn put_u64(n: u64, out: &mut [u8]) -> Result<usize, PutError>
     ensures { (result ≡ answer (decimal n) out.old) × (out.new ≡ front (decimal n) out.old) }
 {
-    if out.len() < decimal_len(n) {
-        return Err(PutError::TooShort);
-    }
-    let mut w = Writer { out, at: 0 };
+    let mut places = [0; 20];
+    let mut w = Writer {
+        out: &mut places,
+        at: 0,
+    };
     write_u64(n, &mut w);
-    Ok(w.at)
+    output::put(w.text(), out)
 }
 
 pub fn put_u32(n: u32, out: &mut [u8]) -> Result<usize, PutError>

@@ -1,10 +1,9 @@
 -- Laws of spaces: a text of spaces alone, and spaces behind a text, as the loops meet them and as trimming does.
-use Rattle.std.proofs.Common.{◌≡◌, ℕ, ◌+◌, ◌-◌, ◌<◌, ◌≤◌, Option, Some, None, is_some, is_none, Bool, true, false, cond, not, ◌&&◌, List, [], ◌∷◌, ◌++◌, length, get_or, take, drop, sym, refl, ap, ◌∙◌, append_assoc, append-nil, add-one, arith, length-append, length-drop, take-append-drop, take-suc, take_all, drop-drop, take_at, eqb-true, le-leb}
-use Rattle.std.specs.List.{position, position_from}
+use Rattle.std.proofs.Common.{◌≡◌, ℕ, zero, suc, ◌+◌, ◌-◌, ◌*◌, ◌/◌, ◌≤◌, Option, Some, None, is_some, is_none, Bool, true, false, cond, not, ◌&&◌, List, [], ◌∷◌, ◌++◌, length, get_or, take, drop, sym, refl, ap, ◌∙◌, append_assoc, append-nil, arith, length-append, length-drop, take-append-drop, take_all, take_at, eqb-true, le-leb}
+use Rattle.std.specs.List.{list_all, position, position_from}
+use Rattle.std.specs.Simd.{first_chunks}
 use Rattle.std.proofs.lemmas.Iterator.Adapters.{position_from-zero}
-use mathlib.Core.Bool.{and-true}
-use lib.Seq.{get_or_at}
-use borrow.Author.Tests.{not-true, not-false}
+use lib.Seq.{get_or_at, take-add}
 use Rattle.utf8.specs.Utf8.{all, within}
 use Rattle.utf8.proofs.TestLaws.{both}
 use Rattle.utf8.proofs.ListLaws.{all_append}
@@ -15,19 +14,6 @@ use Rattle.text.proofs.TrimLaws.{trim_is, trim_order}
 use Rattle.text.proofs.WhiteLaws.{front_visible, back_white, back_visible, gap_white, skip_none, start_stop, start_more, end_stop, end_more, end_end}
 use Rattle.text.proofs.WhiteLaws.{front_space as space_first}
 use Rattle.fields.specs.Fronts.{is_blank, DigitsAround}
-
--- the first k bytes are seen
-pub near_none : true ≡ all is_blank []
-unfolding all
-near_none = refl
-
-module _ (s : List ℕ) (k : ℕ) (near : Bool) (e : near ≡ all is_blank (take k s)) where
-  pub near_more : k < length s → (near && is_blank (get_or s k 0)) ≡ all is_blank (take (k + 1) s)
-  unfolding all
-  near_more h = sym (rw (add-one, take-suc s k 0 h, all_append, ← e) (rw and-true))
-
-  pub near_all : length s ≤ k → near ≡ all is_blank s
-  near_all h = e ∙ ap (all is_blank) (take_all k s h)
 
 -- all are spaces where no byte is none
 none_from : (n : ℕ) (s : List ℕ) → is_none (position_from (λ b. not (is_blank b)) n s) ≡ all is_blank s
@@ -49,32 +35,34 @@ none_is None false n = cc
 none_is (Some i) true n = cc
 none_is (Some i) false n = refl
 
--- from `at` on all are spaces if from i on all are
-module _ (s : List ℕ) (at i : ℕ) (e : all is_blank (drop at s) ≡ all is_blank (drop i s)) where
-  pub spaces_left : (f : Option ℕ) (z : Bool) → f ≡ position (λ b. not (is_blank b)) (take (length s - i) (drop i s)) → is_some f ≡ not z → z ≡ all is_blank (drop at s)
-  spaces_left f z q n =
-      none_is f z n
-      ∙ ink_none (take (length s - i) (drop i s)) f q
-      ∙ ap (all is_blank) (take_all (length s - i) (drop i s) (rw length-drop (omega arith)))
-      ∙ sym e
+-- and 8 bytes at a time
+eights_all : (n : ℕ) (t : List ℕ) → list_all (λ e. all is_blank e) (first_chunks 8 n t) ≡ all is_blank (take (n * 8) t)
+unfolding all
+eights_all zero t = refl
+eights_all (suc n) t =
+    let k : suc n * 8 ≡ 8 + n * 8 = omega arith in
+    rw (eights_all n (drop 8 t), k, take-add, all_append) refl
 
-  -- and 8 bytes at a time
-  module _ (r : Bool) (q : r ≡ all is_blank (take (i + 8 - i) (drop i s))) where
-    eight : r ≡ all is_blank (take 8 (drop i s))
-    eight = let z : i + 8 - i ≡ 8 = omega arith in rw z at q
+module _ (s : List ℕ) (at : ℕ) (h : at ≤ length s) where
+  abbrev left : List ℕ
+  left = take (length s - at) (drop at s)
 
-    parted : all is_blank (drop at s) ≡ (r && all is_blank (drop (i + 8) s))
+  left_all : left ≡ drop at s
+  left_all = take_all (length s - at) (drop at s) (rw length-drop (omega arith))
+
+  module _ (cs : List (List ℕ)) (q : cs ≡ first_chunks 8 (length left / 8) left) (y : Bool) (e : y ≡ list_all (λ e. all is_blank e) cs) where
+    parted : all is_blank (drop at s) ≡ (y && all is_blank (drop (length left / 8 * 8) left))
     parted =
-        e
-        ∙ ap (all is_blank) (sym (take-append-drop 8 (drop i s)))
-        ∙ all_append is_blank (take 8 (drop i s)) (drop 8 (drop i s))
-        ∙ rw (← eight, drop-drop 8 i s)
+        ap (all is_blank) (sym left_all ∙ sym (take-append-drop (length left / 8 * 8) left))
+        ∙ all_append is_blank (take (length left / 8 * 8) left) (drop (length left / 8 * 8) left)
+        ∙ rw (e, q, eights_all) refl
 
-    pub spaces_none : not r ≡ true → false ≡ all is_blank (drop at s)
-    spaces_none f = sym (parted ∙ rw (not-true r f))
+    pub spaces_none : y ≡ false → false ≡ all is_blank (drop at s)
+    spaces_none f = sym (parted ∙ rw f)
 
-    pub spaces_far : not r ≡ false → all is_blank (drop at s) ≡ all is_blank (drop (i + 8) s)
-    spaces_far f = parted ∙ rw (not-false r f)
+    pub spaces_left : y ≡ true → (rest : List ℕ) → rest ≡ drop (length left / 8 * 8) left → (f : Option ℕ) (z : Bool)
+        → f ≡ position (λ b. not (is_blank b)) rest → is_some f ≡ not z → z ≡ all is_blank (drop at s)
+    spaces_left t rest r f z u n = none_is f z n ∙ ink_none rest f u ∙ ap (all is_blank) r ∙ sym (parted ∙ rw t)
 
 -- spaces at the front are trimmed
 pub front_space : (t : List ℕ) → trim_start (32 ∷ t) ≡ trim_start t
@@ -127,7 +115,5 @@ digits_trim t d =
     ∙ ap trim_end (start_stop t 0 (front_visible t d.some_byte (digit_visible (get_or t 0 0) d.first)) refl)
     ∙ end_stop t 0 (back_visible t d.some_byte (digit_visible (get_or t (length t - 1) 0) d.last)) refl
 
--- what the loops use
-pub ruleset near_laws = (near_none, near_more, near_all)
-
-pub ruleset all_laws = (spaces_left, spaces_none, spaces_far)
+-- for all_spaces
+pub ruleset all_laws = (spaces_left, spaces_none)

@@ -4,7 +4,7 @@
 #![tactic(auto)]
 
 ghost use Rattle.std.specs.Prelude.{◌≡◌, ◌+◌, ◌%◌, ◌≤◌, length, drop, ◌==◌, not, IfSome};
-ghost use Rattle.std.specs.List.{position};
+ghost use Rattle.std.specs.List.{position, list_all};
 ghost use Rattle.utf8.specs.Utf8.{all};
 ghost use Rattle.text.specs.White.{trim as trimOf};
 ghost use Rattle.decimal.specs.Decimal.{read_u32};
@@ -13,19 +13,18 @@ ghost use Rattle.network.specs.Prefix.{read_prefix};
 ghost use Rattle.fields.specs.Fronts.{is_blank, OctetAt, AddressTo, BitsAt};
 
 use network::{IpAddr, NetworkPrefix};
+use scan::ByteTest;
 
-// Whether all bytes are spaces. There is no branch, and callers name how many they are: the
-// compiler makes comparisons of words of it.
-#[inline(always)]
-#[tactic(auto, using(crate::proofs::SpaceLaws::near_laws))]
-fn spaces_near(s: &[u8]) -> bool
-    ensures { result ≡ all is_blank s.now }
-{
-    let mut near = true;
-    for b in s {
-        near &= *b == b' ';
+struct Space;
+
+impl ByteTest for Space {
+    ghost use Rattle.fields.specs.Fronts.{is_blank};
+
+    ghost passing = { is_blank };
+
+    fn passes(b: u8) -> bool {
+        b == b' '
     }
-    near
 }
 
 // The place of the first byte that is no space.
@@ -35,6 +34,12 @@ fn first_ink(s: &[u8]) -> Option<usize>
     s.iter().position(|b| *b != b' ')
 }
 
+fn all_eights(eights: &[[u8; 8]]) -> bool
+    ensures { result ≡ list_all (λ e. all is_blank e) eights.now }
+{
+    eights.iter().all(|eight| scan::all_pass::<Space>(eight))
+}
+
 // Whether all bytes from `at` on are spaces, with 8 passed over at a time: what is left of a column
 // is mostly shorter than 16.
 #[tactic(auto, using(crate::proofs::SpaceLaws::all_laws))]
@@ -42,15 +47,8 @@ fn all_spaces(s: &[u8], at: usize) -> bool
     requires { at ≤ length s.now }
     ensures { result ≡ all is_blank (drop at s.now) }
 {
-    let mut i = at;
-    // Stays a while: the step is 8 as long as 8 are left, which no range says.
-    while 8 <= s.len() - i {
-        if !spaces_near(&s[i..i + 8]) {
-            return false;
-        }
-        i += 8;
-    }
-    first_ink(&s[i..]).is_none()
+    let (eights, rest) = s[at..].as_chunks::<8>();
+    all_eights(eights) && first_ink(rest).is_none()
 }
 
 // A byte less 48, modulo 256: a digit is 0 to 9, any other byte is more.
@@ -169,10 +167,8 @@ fn number_in(s: &[u8]) -> Option<u32>
 fn number_behind_spaces(s: &[u8]) -> Option<u32>
     ensures { result ≡ read_u32 (trimOf s.now) }
 {
-    match first_ink(s) {
-        Some(i) => number_in(&s[i..]),
-        None => None,
-    }
+    let i = first_ink(s)?;
+    number_in(&s[i..])
 }
 
 // Most columns of numbers are blank, and those of a listing's Metric and LocPrf have seven bytes:
@@ -181,7 +177,7 @@ fn number_behind_spaces(s: &[u8]) -> Option<u32>
 pub fn read_number(s: &[u8]) -> Option<u32>
     ensures { result ≡ read_u32 (trimOf s.now) }
 {
-    if s.len() == 7 && spaces_near(&s[..7]) {
+    if s.len() == 7 && scan::all_pass::<Space>(&s[..7]) {
         return None;
     }
     number_behind_spaces(s)

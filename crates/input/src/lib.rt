@@ -1,4 +1,5 @@
-// Input that is read in pieces: the line that comes next among the bytes at hand, and the bytes that stay for when more have come.
+// Input that is read in pieces: the line that comes next among the bytes at hand, and the bytes that
+// stay for when more have come.
 #![tactic(auto)]
 
 ghost use Rattle.std.specs.Prelude.{◌≡◌};

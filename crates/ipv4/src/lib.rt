@@ -49,18 +49,14 @@ pub fn read_ipv4(s: &[u8]) -> Option<u32>
     let mut at = 0;
     let mut a: u32 = 0;
     for _k in 0..3usize {
-        let Some((v, e)) = octet(s, at) else {
-            return None;
-        };
+        let (v, e) = octet(s, at)?;
         if s.len() <= e {
             return None;
         }
         a = a * 256 + v;
         at = e + 1;
     }
-    let Some((v, e)) = octet(s, at) else {
-        return None;
-    };
+    let (v, e) = octet(s, at)?;
     if e < s.len() {
         return None;
     }

@@ -6,7 +6,7 @@ use Rattle.std.specs.Prelude.{Option, Some, None, unwrap_or, position}
 use Rattle.std.specs.List.{position_or_len}
 use Prim.Native.Nat.{ℕ, suc, ◌+◌, ◌-◌, ◌*◌, ◌^◌, ◌≤◌, ◌<◌}
 use native.Mathlib.Numerals.{add-one}
-use native.Mathlib.Nat.{add-zero}
+use native.Mathlib.Nat.{zero-add, add-zero}
 use native.Mathlib.Omega.{arith}
 use lib.ListN.{length, get_or, take, drop, drop_of_length-le}
 use lib.Seq.{drop-cons}
@@ -17,9 +17,10 @@ use mathlib.Core.Logic.{◌⊎◌}
 use Rattle.std.proofs.Common.{inl, inr}
 use borrow.Author.Tests.{le-ltb, lt-ltb, lt-leb, le-leb, leb-true, ltb-true, ltb-false}
 use Rattle.scan.specs.Search.{equal, find_from, find_in}
+use Rattle.decimal.specs.Decimal.{below}
 use Rattle.ipv4.specs.Parts.{before, prepend, each, number}
 use Rattle.ipv6.specs.Ipv6.{hex_digit, value_from, group, gap}
-use Rattle.ipv6.specs.Groups.{shifted, push}
+use Rattle.ipv6.specs.Groups.{shifted, push, push_all, side_from}
 use Rattle.ipv6.specs.declared.Groups.{Groups}
 use Rattle.ipv4.proofs.Parts.{number_grows, number_room, before_short}
 
@@ -127,13 +128,22 @@ module _ (p : List ℕ) (few : length p ≤ 4) (i v : ℕ) (h : v < 16 ^ i) (mor
     hex_room_for = record { fits = number_room {m = 4} (omega arith) hex_grows (omega arith) }
 
 -- one group more
-pub push_upper : (r : Groups) (g : ℕ) → r.n < 4 → record { n = r.n + 1; upper = shifted r.upper g; lower = r.lower } ≡ push r g
-unfolding push
-push_upper r g h = simp (lt-ltb r.n 4 h)
+module _ (r : Groups) (g : ℕ) where
+  pub push_full : 7 < r.n → None ≡ side_from r (Some (g ∷ []))
+  push_full h = simp (lt-leb (r.n + 1) 8 (omega arith))
 
-pub push_lower : (r : Groups) (g : ℕ) → 4 ≤ r.n → record { n = r.n + 1; upper = r.upper; lower = shifted r.lower g } ≡ push r g
-unfolding push
-push_lower r g h = simp (le-ltb r.n 4 h)
+  module _ (room : r.n ≤ 7) where
+    pub push_some : Some (push r g) ≡ side_from r (Some (g ∷ []))
+    unfolding push_all
+    push_some = simp (le-leb (r.n + 1) 8 (omega arith))
+
+    pub push_upper : r.n < 4 → Some (record { n = r.n + 1; upper = shifted r.upper g; lower = r.lower }) ≡ side_from r (Some (g ∷ []))
+    unfolding push
+    push_upper h = ap (λ (x : Groups). Some x) (simp (lt-ltb r.n 4 h)) ∙ push_some
+
+    pub push_lower : 4 ≤ r.n → Some (record { n = r.n + 1; upper = r.upper; lower = shifted r.lower g }) ≡ side_from r (Some (g ∷ []))
+    unfolding push
+    push_lower h = ap (λ (x : Groups). Some x) (simp (le-ltb r.n 4 h)) ∙ push_some
 
 -- the first part ends at the first c, else with the text
 before_count : (c : ℕ) (t : List ℕ) → position_or_len (λ b. eqb b c) t ≡ length (before c t)
@@ -154,15 +164,6 @@ end_position c t r e = rw e (go (position_or_len (λ b. eqb b c) t) (before_coun
     go n h false f = omega (arith, ltb-false n (length t) f, before_short c t)
 
 -- the first "::" is where the search finds it
-gap_le : (s : List ℕ) → gap s ≤ length s
-unfolding gap
-gap_le [] = omega arith
-gap_le (b ∷ s) = go (eqb b 58 && eqb (get_or s 0 0) 58) (gap_le s)
-  where
-    go : (t : Bool) → gap s ≤ length s → cond t 0 (suc (gap s)) ≤ suc (length s)
-    go true h = omega arith
-    go false h = omega arith
-
 one_colon : (s : List ℕ) → equal (take 1 s) (58 ∷ []) ≡ eqb (get_or s 0 0) 58
 unfolding equal
 one_colon [] = refl
@@ -186,19 +187,8 @@ found_gap i (b ∷ s) = rw (one_colon s) (go (eqb b 58 && eqb (get_or s 0 0) 58)
     go true h = rw (lt-ltb 0 (suc (length s)) (omega arith), add-zero)
     go false h = h ∙ next (ltb (gap s) (length s)) refl
 
-pub gap_at : (s : List ℕ) (r : Option ℕ) (k : ℕ) → r ≡ find_in s (58 ∷ 58 ∷ []) → r ≡ Some k → k ≡ gap s
-gap_at s r k e f = go (ltb (gap s) (length s)) (sym f ∙ e ∙ found_gap 0 s)
-  where
-    go : (t : Bool) → Some k ≡ cond t (Some (0 + gap s)) None → k ≡ gap s
-    go true h = let z : k ≡ 0 + gap s = cc in omega arith
-    go false h = let z : ◌≡◌ {A = ℕ} 0 1 = cc in absurd (omega arith)
-
-pub gap_none : (s : List ℕ) (r : Option ℕ) → r ≡ find_in s (58 ∷ 58 ∷ []) → r ≡ None → length s ≡ gap s
-gap_none s r e f = go (ltb (gap s) (length s)) refl (sym f ∙ e ∙ found_gap 0 s)
-  where
-    go : (t : Bool) → ltb (gap s) (length s) ≡ t → None ≡ cond t (Some (0 + gap s)) None → length s ≡ gap s
-    go true g h = let z : ◌≡◌ {A = ℕ} 0 1 = cc in absurd (omega arith)
-    go false g h = omega (arith, ltb-false (gap s) (length s) g, gap_le s)
+pub gap_found : (s : List ℕ) (r : Option ℕ) → r ≡ find_in s (58 ∷ 58 ∷ []) → r ≡ below (length s) (Some (gap s))
+gap_found s r e = e ∙ found_gap 0 s ∙ rw (zero-add (gap s))
 
 -- "::" is two bytes
 two_bytes : (s : List ℕ) → gap s < length s → gap s + 2 ≤ length s
@@ -216,5 +206,21 @@ two_bytes (b ∷ s) h = go (eqb b 58) (eqb (get_or s 0 0) 58) refl h (two_bytes 
     go true false e l ih = omega (arith, ih (omega arith))
     go false u e l ih = omega (arith, ih (omega arith))
 
-pub gap_room : (s : List ℕ) (k : ℕ) → k ≡ gap s → k < length s → k + 2 ≤ length s
-gap_room s k e h = rw e (two_bytes s (rw e at h))
+module _ (s : List ℕ) (p : Option ℕ) (hp : p ≡ below (length s) (Some (gap s))) where
+  pub gap_nowhere : p ≡ None → length s ≤ gap s
+  gap_nowhere e = go (ltb (gap s) (length s)) refl (sym e ∙ hp)
+    where
+      go : (t : Bool) → ltb (gap s) (length s) ≡ t → None ≡ cond t (Some (gap s)) None → length s ≤ gap s
+      go true f g = let z : ◌≡◌ {A = ℕ} 0 1 = cc in absurd (omega arith)
+      go false f g = ltb-false (gap s) (length s) f
+
+  module _ (k : ℕ) (here : p ≡ Some k) where
+    pub gap_there : (k ≡ gap s) × (gap s < length s)
+    gap_there = go (ltb (gap s) (length s)) refl (sym here ∙ hp)
+      where
+        go : (t : Bool) → ltb (gap s) (length s) ≡ t → Some k ≡ cond t (Some (gap s)) None → (k ≡ gap s) × (gap s < length s)
+        go true f g = (cc, ltb-true (gap s) (length s) f)
+        go false f g = let z : ◌≡◌ {A = ℕ} 0 1 = cc in absurd (omega arith)
+
+    pub gap_room : k + 2 ≤ length s
+    gap_room = omega (arith, gap_there.0, two_bytes s gap_there.1)

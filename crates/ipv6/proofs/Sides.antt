@@ -13,6 +13,7 @@ use mir.Syntax.{w64}
 use mir.Val.{Fits}
 use lib.Dec.{eqb, leb, ltb}
 use borrow.Author.Tests.{le-ltb, lt-ltb, lt-leb, le-leb, eq-eqb, ne_eqb, leb-true, leb-false, eqb-true, eqb-false, not-true}
+use Rattle.decimal.specs.Decimal.{below}
 use Rattle.ipv4.specs.Parts.{parts, before, prepend, each, number}
 use Rattle.ipv4.specs.Ipv4.{ipv4}
 use Rattle.ipv6.specs.Ipv6.{hex_digit, value_from, group, last_part, groups, side, gap, filled, eight, ipv6, upper, lower, as_ipv6}
@@ -20,7 +21,7 @@ use Rattle.ipv6.specs.Groups.{no_groups, shifted, push, push_all, side_from, who
 use Rattle.ipv6.specs.declared.Groups.{Groups}
 use Rattle.ipv4.proofs.Parts.{parts_last, parts_more, parts_cons, before_take, each_length, each_small, number_room}
 use Rattle.ipv4.proofs.Ipv4.{ipv4_small}
-use Rattle.ipv6.proofs.Ipv6.{digit_small}
+use Rattle.ipv6.proofs.Ipv6.{digit_small, gap_nowhere, gap_there}
 
 pub push_n : (r : Groups) (g : ℕ) → (push r g).n ≡ r.n + 1
 unfolding push
@@ -40,11 +41,35 @@ unfolding push_all
 push_all_append r [] b = refl
 push_all_append r (g ∷ a) b = push_all_append (push r g) a b
 
--- one group in front
-from_prepend : (r : Groups) (g : ℕ) (m : Option (List ℕ)) → side_from r (prepend (Some g) m) ≡ side_from (push r g) m
+-- from at most eight groups on
+counted : (r : Groups) (gs : List ℕ) → r.n ≤ 8 → side_from r (Some gs) ≡ cond (leb (r.n + length gs) 8) (Some (push_all r gs)) None
 unfolding push_all
-from_prepend r g (Some gs) = let z : (push r g).n + length gs ≡ r.n + suc (length gs) = omega (arith, push_n r g) in rw z
-from_prepend r g None = refl
+counted r [] h = simp (le-leb (r.n + 0) 8 (omega arith))
+counted r (g ∷ gs) h = refl
+
+-- what a push answers
+module _ (r : Groups) (g : ℕ) (x : Option Groups) (hx : x ≡ side_from r (Some (g ∷ []))) where
+  pub push_none : x ≡ None → 7 < r.n
+  push_none e = go (leb (r.n + 1) 8) refl (sym e ∙ hx)
+    where
+      go : (t : Bool) → leb (r.n + 1) 8 ≡ t → None ≡ cond {A = Option Groups} t (Some (push_all r (g ∷ []))) None → 7 < r.n
+      go true f h = let z : ◌≡◌ {A = ℕ} 0 1 = cc in absurd (omega arith)
+      go false f h = omega (arith, leb-false (r.n + 1) 8 f)
+
+  pub push_is : (y : Groups) → x ≡ Some y → (y ≡ push r g) × (r.n ≤ 7)
+  unfolding push_all
+  push_is y e = go (leb (r.n + 1) 8) refl (sym e ∙ hx)
+    where
+      go : (t : Bool) → leb (r.n + 1) 8 ≡ t → Some y ≡ cond {A = Option Groups} t (Some (push r g)) None → (y ≡ push r g) × (r.n ≤ 7)
+      go true f h = (cc, omega (arith, leb-true (r.n + 1) 8 f))
+      go false f h = let z : ◌≡◌ {A = ℕ} 0 1 = cc in absurd (omega arith)
+
+-- one group in front
+from_prepend : (r : Groups) (g : ℕ) (m : Option (List ℕ)) → r.n ≤ 7 → side_from r (prepend (Some g) m) ≡ side_from (push r g) m
+unfolding push_all
+from_prepend r g (Some []) h = simp (le-leb (r.n + 1) 8 (omega arith))
+from_prepend r g (Some (k ∷ gs)) h = let z : (push r g).n + suc (length gs) ≡ r.n + suc (suc (length gs)) = omega (arith, push_n r g) in rw z
+from_prepend r g None h = refl
 
 -- no room for it
 from_full : (r : Groups) (g : ℕ) (m : Option (List ℕ)) → 7 < r.n → side_from r (prepend (Some g) m) ≡ None
@@ -53,13 +78,8 @@ from_full r g None h = refl
 
 -- the last part
 module _ (t : List ℕ) (dotted : Bool) (r : Groups) (x : Option ℕ) (hx : x ≡ group t) where
-  module _ (g : ℕ) (hg : x ≡ Some g) where
-    pub part_full : 7 < r.n → None ≡ side_from r (last_part dotted (group t) (ipv4 t))
-    part_full h = rw (← hx, hg) (simp (lt-leb (r.n + 1) 8 (omega arith)))
-
-    pub part_group : r.n ≤ 7 → (y : Groups) → y ≡ push r g → Some y ≡ side_from r (last_part dotted (group t) (ipv4 t))
-    unfolding push_all
-    part_group h y e = rw (← hx, hg, e) (simp (le-leb (r.n + 1) 8 (omega arith)))
+  pub part_group : (g : ℕ) → x ≡ Some g → (y : Option Groups) → y ≡ side_from r (Some (g ∷ [])) → y ≡ side_from r (last_part dotted (group t) (ipv4 t))
+  part_group g hg y e = e ∙ rw (← hx, hg)
 
   module _ (hg : x ≡ None) where
     pub part_bare : not dotted ≡ true → None ≡ side_from r (last_part dotted (group t) (ipv4 t))
@@ -69,27 +89,22 @@ module _ (t : List ℕ) (dotted : Bool) (r : Groups) (x : Option ℕ) (hx : x �
       pub part_none : y ≡ None → None ≡ side_from r (last_part dotted (group t) (ipv4 t))
       part_none e = rw (← hx, hg, d, ← hy, e)
 
-      module _ (a : ℕ) (ha : y ≡ Some a) where
-        pub part_crowded : 6 < r.n → None ≡ side_from r (last_part dotted (group t) (ipv4 t))
-        part_crowded h =
-            rw (← hx, hg, d, ← hy, ha) (simp (lt-leb (r.n + 2) 8 (omega arith)))
+      module _ (a : ℕ) (ha : y ≡ Some a) (z : Option Groups) (hz : z ≡ side_from r (Some (a / 65536 ∷ []))) where
+        pub part_crowded : z ≡ None → None ≡ side_from r (last_part dotted (group t) (ipv4 t))
+        part_crowded e =
+            rw (← hx, hg, d, ← hy, ha) (simp (lt-leb (r.n + 2) 8 (omega (arith, push_none r (a / 65536) z hz e))))
 
-        pub part_dotted : r.n ≤ 6 → (z w : Groups) → z ≡ push r (a / 65536) → w ≡ push z (a % 65536) → Some w ≡ side_from r (last_part dotted (group t) (ipv4 t))
+        pub part_dotted : (v : Groups) → z ≡ Some v → (w : Option Groups) → w ≡ side_from v (Some (a % 65536 ∷ [])) → w ≡ side_from r (last_part dotted (group t) (ipv4 t))
         unfolding push_all
-        part_dotted h z w e f =
-            rw (← hx, hg, d, ← hy, ha, f, e) (simp (le-leb (r.n + 2) 8 (omega arith)))
-
-pub push_le : (r z : Groups) (g : ℕ) → z ≡ push r g → r.n ≤ 7 → z.n ≤ 8
-push_le r z g e h = rw e (omega (arith, push_n r g))
-
-pub push_le_6 : (r z : Groups) (g : ℕ) → z ≡ push r g → r.n ≤ 6 → z.n ≤ 8
-push_le_6 r z g e h = rw e (omega (arith, push_n r g))
+        part_dotted v hv w hw =
+            let pushed : (v ≡ push r (a / 65536)) × (r.n ≤ 7) = push_is r (a / 65536) z hz v hv in
+            rw (← hx, hg, d, ← hy, ha, hw, pushed.0) (sym (from_prepend r (a / 65536) (Some (a % 65536 ∷ [])) pushed.1))
 
 -- a side
-pub side_empty : (s : List ℕ) (dotted : Bool) (r : Groups) → length s ≡ 0 → r.n ≤ 8 → Some r ≡ side_from r (side dotted s)
-unfolding side push_all
-side_empty [] dotted r h l = simp (le-leb (r.n + 0) 8 (omega arith))
-side_empty (b ∷ s) dotted r h l = absurd (omega arith)
+pub side_empty : (s : List ℕ) (dotted : Bool) (r : Groups) → length s ≡ 0 → Some r ≡ side_from r (side dotted s)
+unfolding side
+side_empty [] dotted r h = refl
+side_empty (b ∷ s) dotted r h = absurd (omega arith)
 
 pub side_start : (s : List ℕ) (dotted : Bool) (r : Groups) → (length s ≡ 0 → ⊥) → side_from r (side dotted s) ≡ side_from r (groups dotted (parts 58 s))
 unfolding side
@@ -115,28 +130,39 @@ module _ (s t : List ℕ) (dotted : Bool) (r₀ r : Groups) (inv : side_from r�
     pub side_stop : x ≡ None → None ≡ side_from r₀ (side dotted s)
     side_stop g = rw (inv, first, ← hx, g)
 
-    module _ (g : ℕ) (hg : x ≡ Some g) where
-      pub side_full : 7 < r.n → None ≡ side_from r₀ (side dotted s)
-      side_full l = sym (inv ∙ rw (first, ← hx, hg) (from_full r g (groups dotted (parts 58 (drop (e + 1) t))) l))
+    module _ (g : ℕ) (hg : x ≡ Some g) (z : Option Groups) (hz : z ≡ side_from r (Some (g ∷ []))) where
+      pub side_full : z ≡ None → None ≡ side_from r₀ (side dotted s)
+      side_full f = sym (inv ∙ rw (first, ← hx, hg) (from_full r g (groups dotted (parts 58 (drop (e + 1) t))) (push_none r g z hz f)))
 
-      pub side_next : (z : Groups) → z ≡ push r g
-          → side_from r₀ (side dotted s) ≡ side_from z (groups dotted (parts 58 (take (length t - (e + 1)) (drop (e + 1) t))))
-      side_next z f =
+      pub side_next : (y : Groups) → z ≡ Some y
+          → side_from r₀ (side dotted s) ≡ side_from y (groups dotted (parts 58 (take (length t - (e + 1)) (drop (e + 1) t))))
+      side_next y f =
+          let pushed : (y ≡ push r g) × (r.n ≤ 7) = push_is r g z hz y f in
           inv
-          ∙ rw (first, ← hx, hg, take_all (length t - (e + 1)) (drop (e + 1) t) (simp length-drop (omega arith)), f)
-          (from_prepend r g (groups dotted (parts 58 (drop (e + 1) t))))
+          ∙ rw (first, ← hx, hg, take_all (length t - (e + 1)) (drop (e + 1) t) (simp length-drop (omega arith)), pushed.0)
+          (from_prepend r g (groups dotted (parts 58 (drop (e + 1) t))) pushed.1)
 
 -- zero groups
-module _ (r₀ r : Groups) (m n : ℕ) (hn : n ≡ r.n) (inv : push_all r₀ (replicate (m - r₀.n) 0) ≡ push_all r (replicate (m - n) 0)) where
-  pub fill_more : n < m → (z : Groups) → z ≡ push r 0 → push_all r₀ (replicate (m - r₀.n) 0) ≡ push_all z (replicate (m - (n + 1)) 0)
-  unfolding push_all
-  fill_more h z e = let k : m - n ≡ suc (m - (n + 1)) = omega arith in inv ∙ rw (k, e)
+abbrev pub zeros_from : Groups → ℕ → Option Groups
+zeros_from r k = side_from r (Some (replicate k 0))
 
-  pub fill_n : (z : Groups) → z ≡ push r 0 → n + 1 ≡ z.n
-  fill_n z e = rw e (omega (arith, push_n r 0))
+module _ (r₀ r : Groups) (m n : ℕ) (hn : n ≡ r.n) (inv : zeros_from r₀ (m - r₀.n) ≡ zeros_from r (m - n)) where
+  module _ (more : n < m) (z : Option Groups) (hz : z ≡ side_from r (Some (0 ∷ []))) where
+    k : m - n ≡ suc (m - (n + 1))
+    k = omega arith
 
-  pub fill_end : m ≤ n → r ≡ push_all r₀ (replicate (m - r₀.n) 0)
-  unfolding push_all
+    pub fill_full : z ≡ None → None ≡ zeros_from r₀ (m - r₀.n)
+    fill_full e = sym (inv ∙ rw k (from_full r 0 (Some (replicate (m - (n + 1)) 0)) (push_none r 0 z hz e)))
+
+    pub fill_more : (y : Groups) → z ≡ Some y → zeros_from r₀ (m - r₀.n) ≡ zeros_from y (m - (n + 1))
+    fill_more y e =
+        let pushed : (y ≡ push r 0) × (r.n ≤ 7) = push_is r 0 z hz y e in
+        inv ∙ rw (k, pushed.0) (from_prepend r 0 (Some (replicate (m - (n + 1)) 0)) pushed.1)
+
+    pub fill_n : (y : Groups) → z ≡ Some y → n + 1 ≡ y.n
+    fill_n y e = rw (push_is r 0 z hz y e).0 (omega (arith, push_n r 0))
+
+  pub fill_end : m ≤ n → Some r ≡ zeros_from r₀ (m - r₀.n)
   fill_end h = let k : m - n ≡ 0 = omega arith in sym (inv ∙ rw k)
 
 pub whole_yes : (r : Groups) → r.n ≡ 8 → Some (r.upper, r.lower) ≡ whole_of r
@@ -230,19 +256,19 @@ whole_eight gs h s =
     simp (eq-eqb (push_all no_groups gs).n 8 (push_all_n no_groups gs ∙ zero-add (length gs) ∙ h), (halves gs h s).0, (halves gs h s).1)
 
 -- what a side's answer says of its groups
-known : (r : Groups) (m : Option (List ℕ)) (x : Option Groups) (y : Groups) → x ≡ side_from r m → x ≡ Some y
+known : (r : Groups) (m : Option (List ℕ)) (x : Option Groups) (y : Groups) → r.n ≤ 8 → x ≡ side_from r m → x ≡ Some y
     → (gs : List ℕ) × (m ≡ Some gs) × (y ≡ push_all r gs) × (r.n + length gs ≤ 8)
-known r (Some gs) x y e f = go (leb (r.n + length gs) 8) refl (sym e ∙ f)
+known r (Some gs) x y few e f = go (leb (r.n + length gs) 8) refl (sym (e ∙ counted r gs few) ∙ f)
   where
     go : (t : Bool) → leb (r.n + length gs) 8 ≡ t → cond {A = Option Groups} t (Some (push_all r gs)) None ≡ Some y
         → (hs : List ℕ) × (Some gs ≡ Some hs) × (y ≡ push_all r hs) × (r.n + length hs ≤ 8)
     go true p q = (gs, refl, cc, leb-true (r.n + length gs) 8 p)
     go false p q = let z : ◌≡◌ {A = ℕ} 0 1 = cc in absurd (omega arith)
-known r None x y e f = let z : ◌≡◌ {A = ℕ} 0 1 = cc in absurd (omega arith)
+known r None x y few e f = let z : ◌≡◌ {A = ℕ} 0 1 = cc in absurd (omega arith)
 
 -- none, or more than eight
-unknown : (r : Groups) (m : Option (List ℕ)) (x : Option Groups) → x ≡ side_from r m → x ≡ None → (gs : List ℕ) → m ≡ Some gs → 8 < r.n + length gs
-unknown r m x e f gs h = go (leb (r.n + length gs) 8) refl (sym f ∙ e ∙ ap (side_from r) h)
+unknown : (r : Groups) (m : Option (List ℕ)) (x : Option Groups) → r.n ≤ 8 → x ≡ side_from r m → x ≡ None → (gs : List ℕ) → m ≡ Some gs → 8 < r.n + length gs
+unknown r m x few e f gs h = go (leb (r.n + length gs) 8) refl (sym f ∙ e ∙ ap (side_from r) h ∙ counted r gs few)
   where
     go : (t : Bool) → leb (r.n + length gs) 8 ≡ t → None ≡ cond {A = Option Groups} t (Some (push_all r gs)) None → 8 < r.n + length gs
     go true p q = let z : ◌≡◌ {A = ℕ} 0 1 = cc in absurd (omega arith)
@@ -259,7 +285,7 @@ assembled a b n e h p q =
 -- left and right of "::"
 module _ (l r : List ℕ) (x : Option Groups) (hx : x ≡ side_from no_groups (side false l)) where
   pub around_left : x ≡ None → None ≡ as_ipv6 (filled (side false l) (side true r))
-  around_left e = go (side false l) (side true r) (unknown no_groups (side false l) x hx e)
+  around_left e = go (side false l) (side true r) (unknown no_groups (side false l) x (omega arith) hx e)
     where
       go : (m n : Option (List ℕ)) → ((gs : List ℕ) → m ≡ Some gs → 8 < 0 + length gs) → None ≡ as_ipv6 (filled m n)
       go (Some a) (Some b) h = let z : 8 < 0 + length a = h a refl in simp (lt-leb (length a + length b) 7 (omega arith))
@@ -268,7 +294,7 @@ module _ (l r : List ℕ) (x : Option Groups) (hx : x ≡ side_from no_groups (s
 
   module _ (a : Groups) (ha : x ≡ Some a) (y : Option Groups) (hy : y ≡ side_from no_groups (side true r)) where
     pub around_right : y ≡ None → None ≡ as_ipv6 (filled (side false l) (side true r))
-    around_right e = go (side false l) (side true r) (unknown no_groups (side true r) y hy e)
+    around_right e = go (side false l) (side true r) (unknown no_groups (side true r) y (omega arith) hy e)
       where
         go : (m n : Option (List ℕ)) → ((gs : List ℕ) → n ≡ Some gs → 8 < 0 + length gs) → None ≡ as_ipv6 (filled m n)
         go (Some c) (Some b) h = let z : 8 < 0 + length b = h b refl in simp (lt-leb (length c + length b) 7 (omega arith))
@@ -277,10 +303,10 @@ module _ (l r : List ℕ) (x : Option Groups) (hx : x ≡ side_from no_groups (s
 
     module _ (b : Groups) (hb : y ≡ Some b) where
       left : (gs : List ℕ) × (side false l ≡ Some gs) × (a ≡ push_all no_groups gs) × (0 + length gs ≤ 8)
-      left = known no_groups (side false l) x a hx ha
+      left = known no_groups (side false l) x a (omega arith) hx ha
 
       right : (gs : List ℕ) × (side true r ≡ Some gs) × (b ≡ push_all no_groups gs) × (0 + length gs ≤ 8)
-      right = known no_groups (side true r) y b hy hb
+      right = known no_groups (side true r) y b (omega arith) hy hb
 
       left_n : a.n ≡ length left.0
       left_n = ap (λ (g : Groups). g.n) left.2 ∙ push_all_n no_groups left.0 ∙ zero-add (length left.0)
@@ -294,48 +320,61 @@ module _ (l r : List ℕ) (x : Option Groups) (hx : x ≡ side_from no_groups (s
       pub around_many : 7 < a.n + b.n → None ≡ as_ipv6 (filled (side false l) (side true r))
       around_many h = rw (left.1, right.1) (simp (lt-leb (length left.0 + length right.0) 7 (omega (arith, left_n, right_n))))
 
-      module _ (few : a.n + b.n ≤ 7) (z : Groups) (hz : z ≡ push_all a (replicate (8 - b.n - a.n) 0)) where
-        fill_count : z.n ≡ 8 - b.n
-        fill_count =
-            let u : (push_all a (replicate (8 - b.n - a.n) 0)).n ≡ a.n + (8 - b.n - a.n) = push_all_n a (replicate (8 - b.n - a.n) 0) ∙ rw length-replicate in
-            rw hz (omega arith)
+      module _ (few : a.n + b.n ≤ 7) (u : Option Groups) (hu : u ≡ side_from a (Some (replicate (8 - b.n - a.n) 0))) where
+        pub around_unfilled : u ≡ None → None ≡ as_ipv6 (filled (side false l) (side true r))
+        around_unfilled e =
+            let zeros : length {A = ℕ} (replicate (8 - b.n - a.n) 0) ≡ 8 - b.n - a.n = rw length-replicate in
+            absurd (omega (arith, unknown a (Some (replicate (8 - b.n - a.n) 0)) u (omega arith) hu e (replicate (8 - b.n - a.n) 0) refl, zeros))
 
-        pub fill_le : z.n ≤ 8
-        fill_le = omega (arith, fill_count)
-
-        module _ (w : Option Groups) (hw : w ≡ side_from z (side true r)) where
-          pub around_over : w ≡ None → None ≡ as_ipv6 (filled (side false l) (side true r))
-          around_over e = absurd (omega (arith, unknown z (side true r) w hw e right.0 right.1, fill_count, right_n))
-
-          pub around_whole : (q : Groups) → w ≡ Some q → (v : Option (ℕ × ℕ)) → v ≡ whole_of q → v ≡ as_ipv6 (filled (side false l) (side true r))
-          around_whole q hq v hv = hv ∙ go left.0 right.0 k.0 left.1 right.1 left.2 k.1 k.2 left_n right_n
+        module _ (z : Groups) (full : u ≡ Some z) where
+          hz : z ≡ push_all a (replicate (8 - b.n - a.n) 0)
+          hz = go (known a (Some (replicate (8 - b.n - a.n) 0)) u z (omega arith) hu full)
             where
-              k : (gs : List ℕ) × (side true r ≡ Some gs) × (q ≡ push_all z gs) × (z.n + length gs ≤ 8)
-              k = known z (side true r) w q hw hq
+              go : ((gs : List ℕ) × (Some (replicate (8 - b.n - a.n) 0) ≡ Some gs) × (z ≡ push_all a gs) × (a.n + length gs ≤ 8)) → z ≡ push_all a (replicate (8 - b.n - a.n) 0)
+              go k = let same : replicate (8 - b.n - a.n) 0 ≡ k.0 = cc in k.2 ∙ rw same
 
-              go : (gl gr gs : List ℕ) → side false l ≡ Some gl → side true r ≡ Some gr → a ≡ push_all no_groups gl → side true r ≡ Some gs → q ≡ push_all z gs
-                  → a.n ≡ length gl → b.n ≡ length gr → whole_of q ≡ as_ipv6 (filled (side false l) (side true r))
-              go gl gr gs el er ea es eq na nb =
-                  let same : gs ≡ gr = cc in
-                  let parted : q ≡ push_all (push_all (push_all no_groups gl) (replicate (8 - b.n - a.n) 0)) gr = eq ∙ rw (same, hz, ← ea) in
-                  ap whole_of parted
-                  ∙ assembled gl gr (8 - b.n - a.n) (omega arith) (omega arith) (side_small false l gl el) (side_small true r gr er)
-                  ∙ sym (rw (el, er))
+          fill_count : z.n ≡ 8 - b.n
+          fill_count =
+              let u : (push_all a (replicate (8 - b.n - a.n) 0)).n ≡ a.n + (8 - b.n - a.n) = push_all_n a (replicate (8 - b.n - a.n) 0) ∙ rw length-replicate in
+              rw hz (omega arith)
+
+          fill_le : z.n ≤ 8
+          fill_le = omega (arith, fill_count)
+
+          module _ (w : Option Groups) (hw : w ≡ side_from z (side true r)) where
+            pub around_over : w ≡ None → None ≡ as_ipv6 (filled (side false l) (side true r))
+            around_over e = absurd (omega (arith, unknown z (side true r) w fill_le hw e right.0 right.1, fill_count, right_n))
+
+            pub around_whole : (q : Groups) → w ≡ Some q → (v : Option (ℕ × ℕ)) → v ≡ whole_of q → v ≡ as_ipv6 (filled (side false l) (side true r))
+            around_whole q hq v hv = hv ∙ go left.0 right.0 k.0 left.1 right.1 left.2 k.1 k.2 left_n right_n
+              where
+                k : (gs : List ℕ) × (side true r ≡ Some gs) × (q ≡ push_all z gs) × (z.n + length gs ≤ 8)
+                k = known z (side true r) w q fill_le hw hq
+
+                go : (gl gr gs : List ℕ) → side false l ≡ Some gl → side true r ≡ Some gr → a ≡ push_all no_groups gl → side true r ≡ Some gs → q ≡ push_all z gs
+                    → a.n ≡ length gl → b.n ≡ length gr → whole_of q ≡ as_ipv6 (filled (side false l) (side true r))
+                go gl gr gs el er ea es eq na nb =
+                    let same : gs ≡ gr = cc in
+                    let parted : q ≡ push_all (push_all (push_all no_groups gl) (replicate (8 - b.n - a.n) 0)) gr = eq ∙ rw (same, hz, ← ea) in
+                    ap whole_of parted
+                    ∙ assembled gl gr (8 - b.n - a.n) (omega arith) (omega arith) (side_small false l gl el) (side_small true r gr er)
+                    ∙ sym (rw (el, er))
 
 -- the whole text
-module _ (s : List ℕ) (k : ℕ) (hk : k ≡ gap s) where
-  pub gap_text : k < length s → (v : Option (ℕ × ℕ)) → v ≡ as_ipv6 (filled (side false (take k s)) (side true (take (length s - (k + 2)) (drop (k + 2) s)))) → v ≡ as_ipv6 (ipv6 s)
+module _ (s : List ℕ) (p : Option ℕ) (hp : p ≡ below (length s) (Some (gap s))) where
+  pub gap_text : (k : ℕ) → p ≡ Some k → (v : Option (ℕ × ℕ)) → v ≡ as_ipv6 (filled (side false (take k s)) (side true (take (length s - (k + 2)) (drop (k + 2) s)))) → v ≡ as_ipv6 (ipv6 s)
   unfolding ipv6
-  gap_text h v e =
-      e ∙ rw (take_all (length s - (k + 2)) (drop (k + 2) s) (simp length-drop (omega arith)), hk) (simp (lt-ltb (gap s) (length s) (omega arith)))
+  gap_text k here v e =
+      let there : (k ≡ gap s) × (gap s < length s) = gap_there s p hp k here in
+      e ∙ rw (take_all (length s - (k + 2)) (drop (k + 2) s) (simp length-drop (omega arith)), there.0) (simp (lt-ltb (gap s) (length s) there.1))
 
-  module _ (h : length s ≤ k) (x : Option Groups) (hx : x ≡ side_from no_groups (side true s)) where
+  module _ (nowhere : p ≡ None) (x : Option Groups) (hx : x ≡ side_from no_groups (side true s)) where
     plain : ipv6 s ≡ eight (side true s)
     unfolding ipv6
-    plain = simp (le-ltb (gap s) (length s) (omega arith))
+    plain = simp (le-ltb (gap s) (length s) (gap_nowhere s p hp nowhere))
 
     pub plain_none : x ≡ None → None ≡ as_ipv6 (ipv6 s)
-    plain_none e = rw plain (go (side true s) (unknown no_groups (side true s) x hx e))
+    plain_none e = rw plain (go (side true s) (unknown no_groups (side true s) x (omega arith) hx e))
       where
         go : (m : Option (List ℕ)) → ((gs : List ℕ) → m ≡ Some gs → 8 < 0 + length gs) → None ≡ as_ipv6 (eight m)
         go (Some a) h = let z : 8 < 0 + length a = h a refl in simp (ne_eqb (length a) 8 (λ f. omega arith))
@@ -345,7 +384,7 @@ module _ (s : List ℕ) (k : ℕ) (hk : k ≡ gap s) where
     plain_whole q hq v hv = hv ∙ rw plain (go found.0 found.1 found.2)
       where
         found : (gs : List ℕ) × (side true s ≡ Some gs) × (q ≡ push_all no_groups gs) × (0 + length gs ≤ 8)
-        found = known no_groups (side true s) x q hx hq
+        found = known no_groups (side true s) x q (omega arith) hx hq
 
         count : (gs : List ℕ) → side true s ≡ Some gs → (t : Bool) → eqb (length gs) 8 ≡ t → whole_of (push_all no_groups gs) ≡ as_ipv6 (cond t (Some gs) None)
         count gs es true e = whole_eight gs (eqb-true (length gs) 8 e) (side_small true s gs es)

@@ -1,5 +1,5 @@
 -- The code's own record of groups: how many are read, and the two halves that they make. A group goes to the upper half while there are fewer than four.
-use Rattle.std.specs.Prelude.{ℕ, ◌+◌, ◌*◌, ◌%◌, List, [], ◌∷◌, cond, length, ltb, leb, eqb, Option, Some, None}
+use Rattle.std.specs.Prelude.{ℕ, suc, ◌+◌, ◌*◌, ◌%◌, List, [], ◌∷◌, cond, length, ltb, leb, eqb, Option, Some, None}
 use Rattle.ipv6.specs.declared.Groups.{Groups}
 
 abbrev pub no_groups : Groups
@@ -16,9 +16,10 @@ unfoldable pub push_all : Groups → List ℕ → Groups
 push_all r [] = r
 push_all r (g ∷ gs) = push_all (push r g) gs
 
--- groups behind those of r, at most eight in all
+-- groups after those of r, at most eight in all
 abbrev pub side_from : Groups → Option (List ℕ) → Option Groups
-side_from r (Some gs) = cond (leb (r.n + length gs) 8) (Some (push_all r gs)) None
+side_from r (Some []) = Some r
+side_from r (Some (g ∷ gs)) = cond (leb (r.n + suc (length gs)) 8) (Some (push_all r (g ∷ gs))) None
 side_from r None = None
 
 abbrev pub whole_of : Groups → Option (ℕ × ℕ)

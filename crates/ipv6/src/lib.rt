@@ -1,11 +1,12 @@
 // IPv6 addresses, read from text as RFC 4291 and 01 say.
 #![tactic(auto)]
 
-ghost use Rattle.std.specs.Prelude.{◌≡◌, ◌+◌, ◌-◌, ◌≤◌, ◌==◌, true, false, length, replicate, position};
+ghost use Rattle.std.specs.Prelude.{◌≡◌, ◌+◌, ◌-◌, ◌≤◌, ◌==◌, true, false, Some, [], ◌∷◌, length, replicate, position};
+ghost use Rattle.decimal.specs.Decimal.{below};
 ghost use Rattle.ipv4.specs.Parts.{before};
 ghost use Rattle.ipv4.specs.Ipv4.{ipv4};
 ghost use Rattle.ipv6.specs.Ipv6.{hex_digit, group as group_of, last_part, side as side_of, gap as gap_of, filled, as_ipv6, read_ipv6};
-ghost use Rattle.ipv6.specs.Groups.{shifted, push as pushed, push_all, side_from, whole_of};
+ghost use Rattle.ipv6.specs.Groups.{shifted, side_from, whole_of};
 
 // What a hexadecimal digit stands for.
 #[tactic(auto, using(crate::proofs::Ipv6::from_0, crate::proofs::Ipv6::from_A, crate::proofs::Ipv6::from_a, crate::proofs::Ipv6::no_hex_digit))]
@@ -56,23 +57,28 @@ fn shifted(x: u64, g: u16) -> u64
     x % 0x1_0000_0000_0000 * 0x1_0000 + u64::from(g)
 }
 
-#[tactic(auto, using(crate::proofs::Ipv6::push_upper, crate::proofs::Ipv6::push_lower))]
-fn push(r: Groups, g: u16) -> Groups
-    requires { r.n ≤ 8 }
-    ensures { result ≡ pushed r g }
-{
-    let n = r.n + 1;
-    if r.n < 4 {
-        Groups {
-            n,
-            upper: shifted(r.upper, g),
-            ..r
+impl Groups {
+    // One group more; None where there are eight.
+    #[tactic(auto, using(crate::proofs::Ipv6::push_full, crate::proofs::Ipv6::push_upper, crate::proofs::Ipv6::push_lower))]
+    fn push(self, g: u16) -> Option<Groups>
+        ensures { result ≡ side_from self (Some (g ∷ [])) }
+    {
+        if 7 < self.n {
+            return None;
         }
-    } else {
-        Groups {
-            n,
-            lower: shifted(r.lower, g),
-            ..r
+        let n = self.n + 1;
+        if self.n < 4 {
+            Some(Groups {
+                n,
+                upper: shifted(self.upper, g),
+                ..self
+            })
+        } else {
+            Some(Groups {
+                n,
+                lower: shifted(self.lower, g),
+                ..self
+            })
         }
     }
 }
@@ -92,40 +98,31 @@ fn part_end(t: &[u8], c: u8) -> usize
 }
 
 // The place of the first "::".
-#[tactic(auto, using(crate::proofs::Ipv6::gap_at, crate::proofs::Ipv6::gap_none))]
-fn gap(s: &[u8]) -> usize
-    ensures { result ≡ gap_of s.now }
+#[tactic(auto, using(crate::proofs::Ipv6::gap_found))]
+fn gap(s: &[u8]) -> Option<usize>
+    ensures { result ≡ below (length s.now) (Some (gap_of s.now)) }
 {
-    scan::find(s, b"::").unwrap_or(s.len())
+    scan::find(s, b"::")
 }
 
 // The last part of a side: a group, or where that is allowed an IPv4 address.
-#[tactic(auto, using(crate::proofs::Sides::part_full, crate::proofs::Sides::part_group, crate::proofs::Sides::part_bare, crate::proofs::Sides::part_none, crate::proofs::Sides::part_crowded, crate::proofs::Sides::part_dotted, crate::proofs::Sides::push_le_6))]
+#[tactic(auto, using(crate::proofs::Sides::part_group, crate::proofs::Sides::part_bare, crate::proofs::Sides::part_none, crate::proofs::Sides::part_crowded, crate::proofs::Sides::part_dotted))]
 fn last_part(t: &[u8], dotted: bool, r: Groups) -> Option<Groups>
-    requires { r.n ≤ 8 }
     ensures { result ≡ side_from r (last_part dotted (group_of t.now) (ipv4 t.now)) }
 {
     if let Some(g) = group(t) {
-        if 7 < r.n {
-            return None;
-        }
-        return Some(push(r, g));
+        return r.push(g);
     }
     if !dotted {
         return None;
     }
     let a = ipv4::read_ipv4(t)?;
-    if 6 < r.n {
-        return None;
-    }
-    let x = push(r, (a / 65536) as u16);
-    Some(push(x, (a % 65536) as u16))
+    r.push((a / 65536) as u16)?.push((a % 65536) as u16)
 }
 
-// The groups of s behind those of `start`, at most eight in all.
-#[tactic(auto, using(crate::proofs::Sides::push_le, crate::proofs::Sides::side_empty, crate::proofs::Sides::side_start, crate::proofs::Sides::side_last, crate::proofs::Sides::side_stop, crate::proofs::Sides::side_full))]
+// The groups of s after those of `start`, at most eight in all.
+#[tactic(auto, using(crate::proofs::Sides::side_empty, crate::proofs::Sides::side_start, crate::proofs::Sides::side_stop, crate::proofs::Sides::side_full))]
 fn side(s: &[u8], dotted: bool, start: Groups) -> Option<Groups>
-    requires { start.n ≤ 8 }
     ensures { result ≡ side_from start (side_of dotted s.now) }
 {
     if s.is_empty() {
@@ -137,28 +134,23 @@ fn side(s: &[u8], dotted: bool, start: Groups) -> Option<Groups>
     // Stays a while: the last part is read otherwise, so no iterator over the parts fits.
     while e < t.len() {
         let g = group(&t[..e])?;
-        if 7 < r.n {
-            return None;
-        }
-        r = push(r, g);
-        let k = e + 1;
-        t = &t[k..];
+        r = r.push(g)?;
+        t = &t[e + 1..];
         e = part_end(t, b':');
     }
     last_part(t, dotted, r)
 }
 
 // Zero groups until there are m.
-#[tactic(auto, using(crate::proofs::Sides::fill_more, crate::proofs::Sides::fill_n, crate::proofs::Sides::fill_end))]
-fn fill(start: Groups, m: usize) -> Groups
-    requires { m ≤ 8 }
-    ensures { result ≡ push_all start (replicate (m - start.n) 0) }
+#[tactic(auto, using(crate::proofs::Sides::fill_full, crate::proofs::Sides::fill_end))]
+fn fill(start: Groups, m: usize) -> Option<Groups>
+    ensures { result ≡ side_from start (Some (replicate (m - start.n) 0)) }
 {
     let mut r = start;
     for _n in start.n..m {
-        r = push(r, 0);
+        r = r.push(0)?;
     }
-    r
+    Some(r)
 }
 
 #[tactic(auto, using(crate::proofs::Sides::whole_yes, crate::proofs::Sides::whole_no))]
@@ -172,8 +164,9 @@ fn whole(r: Groups) -> Option<(u64, u64)>
     }
 }
 
-// Left and right of "::", with the zero groups that it stands for. The right side is read once for its count.
-#[tactic(auto, using(crate::proofs::Sides::around_left, crate::proofs::Sides::around_right, crate::proofs::Sides::count_fits, crate::proofs::Sides::around_many, crate::proofs::Sides::fill_le, crate::proofs::Sides::around_over, crate::proofs::Sides::around_whole))]
+// Left and right of "::", with the zero groups that it stands for. The right side is read once for
+// its count.
+#[tactic(auto, using(crate::proofs::Sides::around_left, crate::proofs::Sides::around_right, crate::proofs::Sides::count_fits, crate::proofs::Sides::around_many, crate::proofs::Sides::around_unfilled, crate::proofs::Sides::around_over, crate::proofs::Sides::around_whole))]
 fn around(left: &[u8], right: &[u8]) -> Option<(u64, u64)>
     ensures { result ≡ as_ipv6 (filled (side_of false left.now) (side_of true right.now)) }
 {
@@ -182,17 +175,15 @@ fn around(left: &[u8], right: &[u8]) -> Option<(u64, u64)>
     if 7 < l.n + r.n {
         return None;
     }
-    whole(side(right, true, fill(l, 8 - r.n))?)
+    whole(side(right, true, fill(l, 8 - r.n)?)?)
 }
 
 #[tactic(auto, using(crate::proofs::Ipv6::gap_room, crate::proofs::Sides::gap_text, crate::proofs::Sides::plain_none, crate::proofs::Sides::plain_whole))]
 pub fn read_ipv6(s: &[u8]) -> Option<(u64, u64)>
     ensures { result ≡ read_ipv6 s.now }
 {
-    let k = gap(s);
-    if k < s.len() {
-        let j = k + 2;
-        return around(&s[..k], &s[j..]);
+    match gap(s) {
+        Some(k) => around(&s[..k], &s[k + 2..]),
+        None => whole(side(s, true, NO_GROUPS)?),
     }
-    whole(side(s, true, NO_GROUPS)?)
 }

@@ -6,9 +6,9 @@ use mathlib.Core.Bool.{Bool, true, false, cond}
 use Prim.Native.Nat.{ℕ, zero, suc, ◌+◌, ◌-◌, ◌^◌, ◌≤◌, ◌<◌}
 use native.Mathlib.Omega.{arith}
 use lib.ListN.{length, get_or, take, drop, length-drop}
-use lib.Seq.{drop-cons, take_all, drop-length}
+use lib.Seq.{take_all, get_or-drop}
 use lib.Dec.{leb, ltb}
-use borrow.Author.Tests.{le-ltb, lt-ltb, lt-leb, le-leb, eq-eqb, ne_eqb, ltb-false}
+use borrow.Author.Tests.{ltb-true, le-ltb, lt-ltb, lt-leb, le-leb, eq-eqb, ne_eqb, ltb-false}
 use Rattle.decimal.specs.Decimal.{digits, below}
 use Rattle.ipv4.specs.Ipv4.{ipv4}
 use Rattle.ipv6.specs.Ipv6.{ipv6, as_ipv6, upper, lower}
@@ -111,37 +111,57 @@ last_at c (b ∷ s) zero h e f = simp (le-ltb (last_place c s) (length s) (omega
 last_at c (b ∷ s) (suc j) h e f =
     let z : j ≡ last_place c s = last_at c s j (omega arith) e f in simp (lt-ltb (last_place c s) (length s) (omega arith), ← z)
 
-module _ (c : ℕ) (s : List ℕ) (i : ℕ) (p : 0 < i) (h : i ≤ length s) (f : last_place c (drop i s) ≡ length (drop i s)) where
-  z : suc (i - 1) ≡ i
-  z = omega arith
+pub last_here : (c : ℕ) (s : List ℕ) (i : ℕ) → 0 < i → i ≤ length s → last_place c (drop i s) ≡ length (drop i s) → get_or s (i - 1) 0 ≡ c → i - 1 ≡ last_place c s
+last_here c s i p h f e = let z : suc (i - 1) ≡ i = omega arith in last_at c s (i - 1) (omega arith) e (rw z f)
 
-  pub last_here : get_or s (i - 1) 0 ≡ c → i - 1 ≡ last_place c s
-  last_here e = last_at c s (i - 1) (omega arith) e (rw z f)
-
-  pub last_before : (get_or s (i - 1) 0 ≡ c → ⊥) → last_place c (drop (i - 1) s) ≡ length (drop (i - 1) s)
-  unfolding last_place
-  last_before e =
-      let g : last_place c (drop (suc (i - 1)) s) ≡ length (drop (suc (i - 1)) s) = rw z f in
-      rw (drop-cons s (i - 1) 0 (omega arith))
-      (simp (g, le-ltb (length (drop (suc (i - 1)) s)) (length (drop (suc (i - 1)) s)) (omega arith), ne_eqb (get_or s (i - 1) 0) c e))
-
-pub last_none : (c : ℕ) (s : List ℕ) (i : ℕ) → i ≤ 0 → last_place c (drop i s) ≡ length (drop i s) → length s ≡ last_place c s
-last_none c s i h e = let z : i ≡ 0 = omega arith in sym (rw z at e)
-
-pub last_start : (c : ℕ) (s : List ℕ) → last_place c (drop (length s) s) ≡ length (drop (length s) s)
+-- a list without c has no last place of it
+last_none : (c : ℕ) (s : List ℕ) → ((j : ℕ) → j < length s → get_or s j 0 ≡ c → ⊥) → last_place c s ≡ length s
 unfolding last_place
-last_start c s = rw (drop-length s)
+last_none c [] h = refl
+last_none c (b ∷ s) h =
+    let z : last_place c s ≡ length s = last_none c s (λ j l. h (suc j) (omega arith)) in
+    simp (z, le-ltb (length s) (length s) (omega arith), ne_eqb b c (h 0 (omega arith)))
+
+-- the place that a search from the end answers
+pub last_found : (c : ℕ) (s : List ℕ) (r : Option ℕ) → ((i : ℕ) → r ≡ Some i → i < length s) → ((i : ℕ) → r ≡ Some i → get_or s i 0 ≡ c)
+    → ((i : ℕ) → r ≡ Some i → (j : ℕ) → i + 1 ≤ j → j < length s → get_or s j 0 ≡ c → ⊥) → (r ≡ None → (j : ℕ) → j < length s → get_or s j 0 ≡ c → ⊥)
+    → r ≡ below (length s) (Some (last_place c s))
+last_found c s (Some i) within here after none =
+    let none_after : last_place c (drop (suc i) s) ≡ length (drop (suc i) s)
+    = last_none c (drop (suc i) s) (λ j l e. after i refl (suc i + j) (omega arith) (omega (arith, length-drop (suc i) s)) (sym (get_or-drop (suc i) s j 0) ∙ e)) in
+    let z : i ≡ last_place c s = last_at c s i (within i refl) (here i refl) none_after in
+    simp (lt-ltb (last_place c s) (length s) (omega (arith, within i refl))) (ap Some z)
+last_found c s None within here after none =
+    simp (le-ltb (last_place c s) (length s) (omega (arith, last_none c s (none refl))))
 
 -- the prefix around it
-module _ (s : List ℕ) (k : ℕ) (hk : k ≡ last_place 47 s) where
-  pub prefix_bare : length s ≤ k → None ≡ prefix s
+module _ (s : List ℕ) (p : Option ℕ) (hp : p ≡ below (length s) (Some (last_place 47 s))) where
+  pub prefix_bare : p ≡ None → None ≡ prefix s
   unfolding prefix
-  prefix_bare h = simp (le-ltb (last_place 47 s) (length s) (omega arith))
+  prefix_bare e = go (ltb (last_place 47 s) (length s)) (sym e ∙ hp)
+    where
+      go : (t : Bool) → None ≡ cond t (Some (last_place 47 s)) None → None ≡ cond t (prefix_of (address (take (last_place 47 s) s)) (drop (last_place 47 s + 1) s)) None
+      go true f = let z : ◌≡◌ {A = ℕ} 0 1 = cc in absurd (omega arith)
+      go false f = refl
 
-  module _ (h : k < length s) (x : Option IpAddr) (hx : x ≡ address (take k s)) where
+  module _ (k : ℕ) (here : p ≡ Some k) where
+    slash_there : (k ≡ last_place 47 s) × (last_place 47 s < length s)
+    slash_there = go (ltb (last_place 47 s) (length s)) refl (sym here ∙ hp)
+      where
+        go : (t : Bool) → ltb (last_place 47 s) (length s) ≡ t → Some k ≡ cond t (Some (last_place 47 s)) None → (k ≡ last_place 47 s) × (last_place 47 s < length s)
+        go true e f = (cc, ltb-true (last_place 47 s) (length s) e)
+        go false e f = let z : ◌≡◌ {A = ℕ} 0 1 = cc in absurd (omega arith)
+
+    pub slash_within : k < length s
+    slash_within = omega (arith, slash_there.0, slash_there.1)
+
+  module _ (k : ℕ) (here : p ≡ Some k) (x : Option IpAddr) (hx : x ≡ address (take k s)) where
+    hk : k ≡ last_place 47 s
+    hk = (slash_there k here).0
+
     split : prefix s ≡ prefix_of (address (take k s)) (drop (k + 1) s)
     unfolding prefix
-    split = rw hk (simp (lt-ltb (last_place 47 s) (length s) (omega arith)))
+    split = rw hk (simp (lt-ltb (last_place 47 s) (length s) (slash_there k here).1))
 
     pub prefix_no_address : x ≡ None → None ≡ prefix s
     prefix_no_address e = rw split (go (address (take k s)) (sym e ∙ hx))
@@ -152,7 +172,7 @@ module _ (s : List ℕ) (k : ℕ) (hk : k ≡ last_place 47 s) where
 
     module _ (a : IpAddr) (ha : x ≡ Some a) (y : Option ℕ) (hy : y ≡ length_for a (take (length s - (k + 1)) (drop (k + 1) s))) where
       joined : prefix s ≡ with_length a (length_for a (take (length s - (k + 1)) (drop (k + 1) s)))
-      joined = split ∙ rw (take_all (length s - (k + 1)) (drop (k + 1) s) (simp length-drop (omega arith))) (go (address (take k s)) (sym ha ∙ hx))
+      joined = split ∙ rw (take_all (length s - (k + 1)) (drop (k + 1) s) (simp length-drop (omega (arith, slash_within k here)))) (go (address (take k s)) (sym ha ∙ hx))
         where
           go : (m : Option IpAddr) → Some a ≡ m → prefix_of m (drop (k + 1) s) ≡ with_length a (length_for a (drop (k + 1) s))
           go (Some b) f = let z : b ≡ a = cc in rw z

@@ -1,7 +1,8 @@
 // Addresses and prefixes: their types, and reading them from text as 01 says.
 #![tactic(auto)]
 
-ghost use Rattle.std.specs.Prelude.{◌≡◌, ◌≤◌};
+ghost use Rattle.std.specs.Prelude.{◌≡◌, ◌≤◌, Some, length};
+ghost use Rattle.decimal.specs.Decimal.{below};
 ghost use Rattle.network.specs.Address.{read_address};
 ghost use Rattle.network.specs.Prefix.{last_place, length_of, length_for, read_prefix, valid_prefix};
 
@@ -67,26 +68,17 @@ fn length_for(addr: IpAddr, t: &[u8]) -> Option<u8>
 }
 
 // The place of the last '/': in a prefix it is one of the last four bytes.
-#[tactic(auto, using(crate::proofs::Reading::last_here, crate::proofs::Reading::last_before, crate::proofs::Reading::last_none, crate::proofs::Reading::last_start))]
-fn last_slash(s: &[u8]) -> usize
-    ensures { result ≡ last_place 47 s.now }
+fn last_slash(s: &[u8]) -> Option<usize>
+    ensures { result ≡ below (length s.now) (Some (last_place 47 s.now)) }
 {
-    for i in (0..s.len()).rev() {
-        if s[i] == b'/' {
-            return i;
-        }
-    }
-    s.len()
+    s.iter().rposition(|b| *b == b'/')
 }
 
-#[tactic(auto, using(ipv4::proofs::Parts::take_count, crate::proofs::Reading::prefix_bare, crate::proofs::Reading::prefix_no_address, crate::proofs::Reading::prefix_no_length, crate::proofs::Reading::prefix_some))]
+#[tactic(auto, using(ipv4::proofs::Parts::take_count, crate::proofs::Reading::slash_within, crate::proofs::Reading::prefix_bare, crate::proofs::Reading::prefix_no_address, crate::proofs::Reading::prefix_no_length, crate::proofs::Reading::prefix_some))]
 pub fn read_prefix(s: &[u8]) -> Option<NetworkPrefix>
     ensures { result ≡ read_prefix s.now }
 {
-    let k = last_slash(s);
-    if s.len() <= k {
-        return None;
-    }
+    let k = last_slash(s)?;
     let addr = read_address(&s[..k])?;
     let len = length_for(addr, &s[k + 1..])?;
     Some(NetworkPrefix { addr, len })

@@ -1,9 +1,10 @@
 -- Laws of writing addresses and prefixes.
 use mathlib.Core.Path.{◌≡◌}
-use Prim.Native.Nat.{◌+◌, ◌≤◌}
+use Prim.Native.Nat.{◌+◌, ◌≤◌, ◌<◌}
 use native.Mathlib.Omega.{arith}
 use lib.ListN.{length, length-append}
 use Rattle.decimal_display.specs.Printed.{decimal}
+use Rattle.decimal_display.proofs.Printed.{digits_most}
 use Rattle.output.specs.Writing.{Writes}
 use Rattle.output.specs.declared.Writer.{Writer}
 use Rattle.output.proofs.Writing.{place}
@@ -28,3 +29,6 @@ address_length a w₀ w c z e =
 pub prefix_length : (p : NetworkPrefix) → length (prefix_text p) ≡ length (address_text p.addr) + 1 + length (decimal p.len)
 unfolding prefix_text
 prefix_length p = simp length-append (omega arith)
+
+pub prefix_le : (p : NetworkPrefix) → p.len < 256 → length (prefix_text p) ≤ 66
+prefix_le p h = omega (arith, prefix_length p, address_le p.addr, digits_most 19 p.len (omega (arith, h)))

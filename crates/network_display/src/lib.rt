@@ -9,8 +9,8 @@ ghost use Rattle.network_display.specs.Text.{address_text, prefix_text};
 use network::{IpAddr, NetworkPrefix};
 use output::{PutError, Writer};
 
-// Stays writers and no Display: 01's calls print into a lent list, and refuse where it is too short;
-// a Display beside them would be a second printer, which nothing here would use.
+// Stays writers and no Display: 01's calls print into a lent list, and refuse where it is too
+// short; a Display beside them would be a second printer, which nothing here would use.
 #[tactic(auto, unfolding(crate::specs::Text::address_text))]
 #[inline(always)]
 pub fn write_address(a: IpAddr, w: &mut Writer)
@@ -54,12 +54,13 @@ pub fn address_len(a: IpAddr) -> usize
 pub fn put_address(a: IpAddr, out: &mut [u8]) -> Result<usize, PutError>
     ensures { (result ≡ answer (address_text a) out.old) × (out.new ≡ front (address_text a) out.old) }
 {
-    if out.len() < address_len(a) {
-        return Err(PutError::TooShort);
-    }
-    let mut w = Writer { out, at: 0 };
+    let mut places = [0; 45];
+    let mut w = Writer {
+        out: &mut places,
+        at: 0,
+    };
     write_address(a, &mut w);
-    Ok(w.at)
+    output::put(w.text(), out)
 }
 
 #[tactic(auto, using(crate::proofs::Writing::prefix_length))]
@@ -72,10 +73,11 @@ pub fn prefix_text_len(p: NetworkPrefix) -> usize
 pub fn put_prefix(p: NetworkPrefix, out: &mut [u8]) -> Result<usize, PutError>
     ensures { (result ≡ answer (prefix_text p) out.old) × (out.new ≡ front (prefix_text p) out.old) }
 {
-    if out.len() < prefix_text_len(p) {
-        return Err(PutError::TooShort);
-    }
-    let mut w = Writer { out, at: 0 };
+    let mut places = [0; 66];
+    let mut w = Writer {
+        out: &mut places,
+        at: 0,
+    };
     write_prefix(p, &mut w);
-    Ok(w.at)
+    output::put(w.text(), out)
 }

@@ -1,10 +1,11 @@
 -- Laws of calls that are lent a writer.
 use Rattle.std.specs.Prelude.{Ok}
-use mathlib.Core.Path.{◌≡◌, refl, ◌∙◌}
+use mathlib.Core.Path.{◌≡◌, refl, sym, ◌∙◌}
 use mathlib.Core.List.{List, [], ◌∷◌, ◌++◌}
 use Prim.Native.Nat.{ℕ, ◌+◌, ◌-◌, ◌≤◌, ◌<◌, min}
 use native.Mathlib.Omega.{arith}
-use lib.ListN.{length, set, take}
+use lib.ListN.{length, set, take, drop}
+use lib.Seq.{take_at}
 use borrow.Rule.Slice.PartMut.{put_mid}
 use borrow.Rule.Slice.Mut.{set_vals}
 use Rattle.output.specs.Output.{room, overwrite, front, answer}
@@ -62,6 +63,12 @@ none_left {w = w} l = last_left l (nothing w)
 -- a writer that began at place 0 of a list with room is at the text's end
 pub place : {t : List ℕ} {w₀ w : Writer} → Writes t w₀ w → w₀.at ≡ 0 → length t ≤ length w₀.out.now → w.at ≡ length t
 place {t} {w₀} c z h = omega (arith, c.written.place, z, output.room_all w₀.out.now w₀.at t (omega (arith, z)))
+
+-- and holds the text, whole
+pub holds : {t s : List ℕ} {w₀ w : Writer} → Writes t w₀ w → w₀.at ≡ 0 → length t ≤ length w₀.out.now → s ≡ take w.at w.out.now → s ≡ t
+holds {t} {w₀ = w₀} {w = w} c z h e =
+    e
+    ∙ rw ((output.all_written t w₀.out.now w.out.now w₀.at w.at c.written (omega (arith, z, h))).0, z) (take_at t (drop (0 + length t) w₀.out.now) w.at (sym (place c z h)))
 
 -- a call that measured its text and has room, so that it lends a writer of its whole list: x is the list afterwards
 pub put : {t x : List ℕ} {n : ℕ} {w₀ w : Writer} → n ≡ length t → n ≤ length w₀.out.now → Writes t w₀ w → w₀.at ≡ 0 → x ≡ w.out.now

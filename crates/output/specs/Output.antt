@@ -5,7 +5,8 @@
 -- calls in a row need no measuring and no premise, and together they write the append of their texts. The laws are in proofs/Writing.antt:
 --   then                                 two calls in a row write the append
 --   all_left, next_left, none_left       the same for a loop, whose invariant is `Left`
---   place, put                           a call that measured its text and lends a writer of its whole list
+--   place, holds                         a writer of places of our own, which measures its text and holds it
+--   put                                  a call that measured its text and lends a writer of its whole list
 -- and in proofs/Output.antt: too_short and kept, for a call that measures its text and refuses a list that is too short.
 
 use Rattle.std.specs.Prelude.{ℕ, ◌+◌, ◌-◌, min, ◌≡◌, List, ◌++◌, cond, length, take, drop, leb, Result, Ok, Err}

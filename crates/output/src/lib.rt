@@ -3,6 +3,7 @@
 
 ghost use Rattle.std.specs.Prelude.{◌≡◌, ◌+◌, ◌<◌, ◌≤◌, [], ◌∷◌, length, take, drop};
 ghost use Rattle.std.proofs.Math.Seq.{paste};
+ghost use Rattle.output.specs.Output.{answer, front};
 ghost use Rattle.output.specs.Writing.{Writes};
 
 // Why a call refuses that prints into a lent list (01, Where a call says no): 9.
@@ -71,6 +72,19 @@ fn copy_first(text: &[u8], out: &mut [u8]) -> usize
     n
 }
 
+// All of the text at the list's front, or a refusal where the list is too short.
+#[tactic(auto, unfolding(crate::specs::Output::answer, crate::specs::Output::front))]
+pub fn put(text: &[u8], out: &mut [u8]) -> Result<usize, PutError>
+    ensures { (result ≡ answer text.now out.old) × (out.new ≡ front text.now out.old) }
+{
+    let n = text.len();
+    if out.len() < n {
+        return Err(PutError::TooShort);
+    }
+    copy(text, &mut out[..n]);
+    Ok(n)
+}
+
 // A lent list with the place in it up to which text stands. A text is written as far as there is
 // room, so texts one after another need no measuring.
 #[derive(Drop)]
@@ -80,6 +94,14 @@ pub struct Writer<'a> {
 }
 
 impl<'a> Writer<'a> {
+    // What stands in the list up to the place: all of it where the place is past its end.
+    #[inline(always)]
+    pub fn text(&self) -> &[u8]
+        ensures { result.now ≡ take self.now.at self.now.out.now }
+    {
+        &self.out[..self.at.min(self.out.len())]
+    }
+
     // Most texts have room; one whose length is known is then a few stores.
     #[inline(always)]
     pub fn bytes(&mut self, text: &[u8])

@@ -1,4 +1,5 @@
-// The remembered prefix as numbers, for a loop that keeps it: an enum that holds a struct would be copied through memory at each turn.
+// The remembered prefix as numbers, for a loop that keeps it: an enum that holds a struct would be
+// copied through memory at each turn.
 #![tactic(auto)]
 
 ghost use Rattle.std.specs.Prelude.{◌≡◌};
@@ -12,9 +13,10 @@ use network::{IpAddr, NetworkPrefix};
 use text_dump::Remembered;
 use text_dump_line::PrefixText;
 
-// Stays numbers: an enum that holds the prefix is copied in other pieces than it was written in, which
-// stalls the processor (docs/PERFORMANCE.md: -12 %, -9 %), so its kind stands beside it.
-// 0 nothing, 1 invalid text, 2 a prefix; then the version of its address, 4 or 6, the address in two halves, and its length.
+// Stays numbers: an enum that holds the prefix is copied in other pieces than it was written
+// in, which stalls the processor (docs/PERFORMANCE.md: -12 %, -9 %).
+// The kind: 0 nothing, 1 invalid text, 2 a prefix; then the version of its address, 4 or 6, the
+// address in two halves, and its length.
 #[derive(Clone, Copy)]
 pub struct Packed {
     pub kind: u64,

@@ -23,17 +23,8 @@ fn digits(s: &[u8], out: &mut [u8]) -> usize {
     s.len().min(out.len())
 }
 
-pub fn first_numbers(s: &[u32], n: usize) -> &[u32] {
-    &s[..n.min(s.len())]
-}
-
-pub fn first_bytes(s: &mut [u8], n: usize) -> &mut [u8] {
-    let n = n.min(s.len());
-    &mut s[..n]
-}
-
 // How many of each a record has.
-#[derive(Clone, Copy)]
+#[derive(Clone, Copy, Default)]
 pub struct Loaded {
     pub kinds: usize,
     pub lengths: usize,
@@ -49,50 +40,38 @@ pub struct Lists {
     pub loaded: Loaded,
 }
 
+// The record of three fields: `bytes` reads a field, and `numbers` the third one's bytes.
+fn load_fields<B: Fn(&[u8], &mut [u8]) -> usize, N: Fn(&[u8], &mut [u32]) -> usize>(
+    fields: [&[u8]; 3],
+    bytes: B,
+    numbers: N,
+) -> Lists
+    requires { B.IsAlwaysCallable bytes × N.IsAlwaysCallable numbers }
+{
+    let mut lists = Lists {
+        kinds: [0; 64],
+        lengths: [0; 64],
+        numbers: [0; 256],
+        loaded: Loaded::default(),
+    };
+    let mut s = [0; 4096];
+    lists.loaded.kinds = bytes(fields[0], &mut lists.kinds);
+    let n = bytes(fields[1], &mut s);
+    lists.loaded.lengths = byte_numbers(cases::first(&s, n), &mut lists.lengths);
+    let n = bytes(fields[2], &mut s);
+    lists.loaded.numbers = numbers(cases::first(&s, n), &mut lists.numbers);
+    lists
+}
+
 // The record whose kinds are the field `first`.
 pub fn load(line: &[u8], first: usize) -> Lists {
-    let second = if first == 1 { 2 } else { 7 };
-    let third = if first == 1 { 3 } else { 8 };
-    let mut s = [0; 4096];
-    let mut kinds = [0; 64];
-    let mut lengths = [0; 64];
-    let mut numbers = [0; 256];
-    let nk = cases::hex(cases::field(line, first), &mut kinds).len();
-    let ml = cases::hex(cases::field(line, second), &mut s).len();
-    let nl = byte_numbers(cases::part(&s, 0, ml), &mut lengths);
-    let mn = cases::hex(cases::field(line, third), &mut s).len();
-    let nn = word_numbers(cases::part(&s, 0, mn), &mut numbers);
-    Lists {
-        kinds,
-        lengths,
-        numbers,
-        loaded: Loaded {
-            kinds: nk,
-            lengths: nl,
-            numbers: nn,
-        },
-    }
+    let [second, third] = if first == 1 { [2, 3] } else { [7, 8] };
+    let fields = [first, second, third].map(|n| cases::field(line, n));
+    load_fields(fields, |s, out| cases::hex(s, out).len(), word_numbers)
 }
 
 // The record of an `all`, with one digit for each kind, length and number.
 pub fn load_digits(line: &[u8]) -> Lists {
-    let mut s = [0; 4096];
-    let mut kinds = [0; 64];
-    let mut lengths = [0; 64];
-    let mut numbers = [0; 256];
-    let nk = digits(cases::field(line, 1), &mut kinds);
-    let ml = digits(cases::field(line, 2), &mut s);
-    let nl = byte_numbers(cases::part(&s, 0, ml), &mut lengths);
-    let mn = digits(cases::field(line, 3), &mut s);
-    let nn = byte_numbers(cases::part(&s, 0, mn), &mut numbers);
-    Lists {
-        kinds,
-        lengths,
-        numbers,
-        loaded: Loaded {
-            kinds: nk,
-            lengths: nl,
-            numbers: nn,
-        },
-    }
+    let fields = [1, 2, 3].map(|n| cases::field(line, n));
+    load_fields(fields, digits, byte_numbers)
 }

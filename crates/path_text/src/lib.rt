@@ -25,13 +25,10 @@ fn last_token(s: &[u8]) -> &[u8]
 fn letter_of(w: &[u8]) -> Option<Origin>
     ensures { result ≡ letter w.now }
 {
-    let [b] = w else {
-        return None;
-    };
-    match *b {
-        b'i' => Some(Origin::IGP),
-        b'e' => Some(Origin::EGP),
-        b'?' => Some(Origin::INCOMPLETE),
+    match w {
+        [b'i'] => Some(Origin::IGP),
+        [b'e'] => Some(Origin::EGP),
+        [b'?'] => Some(Origin::INCOMPLETE),
         _ => None,
     }
 }
@@ -44,7 +41,7 @@ fn is_letter(b: u8) -> bool
 }
 
 // What a letter tells.
-// Stays by way of its number: no branch is made of that, and none would guess which letter comes.
+// Stays by way of its number, with no branch: none would guess which letter comes.
 #[tactic(auto, using(crate::proofs::OriginLaws::letter_byte))]
 fn origin_by(b: u8) -> Origin
     requires { is_known (letter (b ∷ [])) ≡ true }
@@ -68,8 +65,8 @@ pub fn origin_of(s: &[u8]) -> Option<Origin>
     }
 }
 
-// The number from `at` on, with the place behind it, where it has at most seven digits and a space
-// behind these, as nearly every one has: the eight bytes are looked at at once.
+// The number from `at` on, with the place after it, where it has at most seven digits and a space
+// after these, as nearly every one has. Eight bytes are read as a little-endian u64.
 fn plain_number(part: &[u8], at: usize) -> Option<(u32, usize)>
     ensures { IsPlain part.now at result }
 {
@@ -153,7 +150,8 @@ pub enum AsnsError {
     TooFewPlaces,
 }
 
-// Are there places for a path's AS numbers? Each takes a byte of the part at least: where there are as many places, they need not be counted.
+// Are there places for a path's AS numbers? Each takes a byte of the part at least: where there are
+// as many places, they need not be counted.
 #[tactic(auto, using(crate::proofs::PathLaws::many_places))]
 fn has_places(part: &[u8], places: usize) -> bool
     ensures { result ≡ leb (length (asns_of part.now)) places }

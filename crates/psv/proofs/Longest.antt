@@ -4,28 +4,27 @@ use Rattle.std.specs.Prelude.{Option, Some, None}
 use mathlib.Core.Path.{◌≡◌, refl}
 use mathlib.Core.List.{List, [], ◌∷◌}
 use mathlib.Core.Bool.{Bool, true, false}
-use Prim.Native.Nat.{ℕ, suc, ◌*◌, ◌-◌, ◌≤◌, ◌<◌}
+use Prim.Native.Nat.{ℕ, suc, ◌*◌, ◌≤◌, ◌<◌}
 use native.Mathlib.Omega.{arith}
 use lib.ListN.{length, get_or, length-append}
-use lib.Dec.{T, ltb}
+use lib.Dec.{T}
 use lib.Ieee.{Float, binary64, fits}
 use mir.Syntax.{w8, w32}
 use mir.Val.{Val, Fits}
 use denote.Laws.{Is}
 use denote.Struct.Declared as struct
 use borrow.Author.Rules.{rules}
-use borrow.Author.Tests.{ltb-true, ltb-false}
 use Rattle.std.specs.Borrow.{u32}
 use Rattle.std.specs.contracts.option.Option as option
 use Rattle.decimal_display.specs.Printed.{decimal}
-use Rattle.decimal_display.proofs.Printed.{digits_most, negative_length, positive_length}
+use Rattle.decimal_display.proofs.Printed.{digits_most, difference_le}
 use Rattle.network.specs.contracts.Asn as asn
 use Rattle.network.specs.declared.Asn.{Asn}
 use Rattle.network.specs.declared.IpAddr.{IpAddr}
 use Rattle.network.specs.declared.NetworkPrefix.{NetworkPrefix}
 use Rattle.network_display.specs.Text.{prefix_text}
 use Rattle.network_display.proofs.Writing.{address_le}
-use Rattle.seconds.specs.Seconds.{second_of, timestamp_text}
+use Rattle.seconds.specs.Seconds.{second_of}
 use Rattle.seconds.proofs.Inverse.{timestamp_of_second}
 use Rattle.aspath_display.specs.Display.{lead, separated}
 use Rattle.elem.specs.declared.Element.{Element}
@@ -46,15 +45,9 @@ time_le : (t : Float) → T (fits binary64 t) → length (time_text (second_of t
 unfolding time_text
 time_le t f = go (second_of t) refl
   where
-    second_le : (s : ℕ) → s < 315569520000 → (b : Bool) → ltb s 62167219200 ≡ b → length (timestamp_text s) ≤ 21
-    second_le s h true e =
-        omega (arith, negative_length s 62167219200 _ (ltb-true s 62167219200 e) refl, digits_most 19 (62167219200 - s) (omega arith))
-    second_le s h false e =
-        omega (arith, positive_length s 62167219200 _ (ltb-false s 62167219200 e) refl, digits_most 19 (s - 62167219200) (omega arith))
-
     go : (m : Option ℕ) → second_of t ≡ m → length (time_text m) ≤ 21
     go None e = omega arith
-    go (Some s) e = second_le s (timestamp_of_second t s f e).0 (ltb s 62167219200) refl
+    go (Some s) e = difference_le s 62167219200 (let h : s < 315569520000 = (timestamp_of_second t s f e).0 in omega arith) (omega arith)
 
 prefix_le : (p : NetworkPrefix) → Fits w8 p.len → length (prefix_text p) ≤ 66
 unfolding prefix_text

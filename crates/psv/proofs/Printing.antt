@@ -1,20 +1,20 @@
 -- Laws of an element's line: its parts written and put together, and its fields joined.
-use Rattle.std.specs.Prelude.{Option, Some, None, option_map, Result, Ok, Err}
+use Rattle.std.specs.Prelude.{Option, Some, None, option_map, Ok, Err}
 use mathlib.Core.Path.{◌≡◌, refl, sym, ap, ◌∙◌}
 use mathlib.Core.List.{List, [], ◌∷◌, ◌++◌, append_assoc}
 use mathlib.Core.Bool.{Bool, true, false}
 use Prim.Native.Nat.{ℕ, ◌+◌, ◌-◌, ◌≤◌, ◌<◌}
 use native.Mathlib.Numerals.{add-one}
 use native.Mathlib.Omega.{arith}
-use lib.ListN.{length, get_or, take, drop, length-append, drop_of_length-le}
-use lib.Seq.{drop-cons, take_at}
+use lib.ListN.{length, get_or, drop, length-append, drop_of_length-le}
+use lib.Seq.{drop-cons}
 use lib.Dec.{leb}
 use borrow.Author.Tests.{le-leb, lt-leb, leb-true, leb-false}
 use Rattle.scan.specs.Ascii.{ascii}
 use Rattle.decimal_display.specs.Printed.{decimal}
 use Rattle.output.specs.Writing.{Writes}
 use Rattle.output.specs.declared.Writer.{Writer}
-use Rattle.output.proofs.Output.{kept, all_written, room_inside}
+use Rattle.output.proofs.Output.{kept}
 use Rattle.output.proofs.Writing.{place, put}
 use Rattle.network.specs.declared.Asn.{Asn}
 use Rattle.network_display.specs.Text.{address_text, prefix_text}
@@ -22,7 +22,6 @@ use Rattle.seconds.specs.Seconds.{second_of}
 use Rattle.aspath_display.specs.Display.{lead, separated}
 use Rattle.elem.specs.Element.{spoilt, numbers}
 use Rattle.elem.specs.declared.Element.{Element}
-use Rattle.psv.specs.declared.ElementError.{ElementError}
 use Rattle.psv.specs.declared.ElementError.TheVariants.{TooShort}
 use Rattle.psv.specs.Line.{header_text, bar, type_text, time_text, sequence_text, asn_text, origin_text, number_text, psv_text, display_text, front_text, between_text, attributes_text, tail_text, line_text, Printed}
 
@@ -32,23 +31,6 @@ unfolding asn_text number_text
 asn_number (Some a) = refl
 asn_number None = refl
 
--- a text written to places of our own, of which there are enough
-module _ (t : List ℕ) (w v : Writer) (c : Writes t w v) (start : w.at ≡ 0) (fits : length t ≤ length w.out.now) where
-  written_text : (x : List ℕ) → x ≡ v.out.now → take v.at x ≡ t
-  written_text x e =
-      rw (e, (all_written t w.out.now v.out.now w.at v.at c.written (omega arith)).0, start) (take_at t (drop (0 + length t) w.out.now) v.at (sym (place c start fits)))
-
-  -- copied from there, and a line printed with it
-  pub copied : {x : List ℕ} {w₁ v₁ : Writer} → Writes (take v.at x) w₁ v₁ → x ≡ v.out.now → Writes t w₁ v₁
-  copied {x = x} c₁ e = rw (← written_text x e) c₁
-
-  pub tail_put : (e : Element) (asns : List ℕ) {s : Bool} {u out new x : List ℕ} {r : Result ℕ ElementError} → line_text t e asns ≡ u
-      → Printed s (line_text (take v.at x) e asns) out r new → x ≡ v.out.now → Printed s u out r new
-  tail_put e asns {x = x} f p g = rw (← f, ← written_text x g) p
-
-pub inside : {t : List ℕ} {w v : Writer} → Writes t w v → w.at ≤ length w.out.now → v.at ≤ length w.out.now
-inside {t} {w} {v} c h = omega (arith, c.written.place, room_inside w.out.now w.at t h)
-
 -- a number's length taken from the room that is left
 leb_shift : (n a room : ℕ) → n ≤ room → leb (n + a) room ≡ leb a (room - n)
 leb_shift n a room h = go (leb a (room - n)) refl
@@ -57,7 +39,7 @@ leb_shift n a room h = go (leb a (room - n)) refl
     go true k = le-leb (n + a) room (omega (arith, leb-true a (room - n) k))
     go false k = lt-leb (n + a) room (omega (arith, leb-false a (room - n) k))
 
-module _ (x first : Bool) (s : List ℕ) (i left : ℕ) (known : x ≡ leb (length (separated 32 decimal first (drop i s))) left) where
+module _ (first x : Bool) (s : List ℕ) (i left : ℕ) (known : x ≡ leb (length (separated 32 decimal first (drop i s))) left) where
   module _ (h : i < length s) (n : ℕ) (e : n ≡ length (lead first 32 ++ decimal (get_or s i 0))) where
     next : length (separated 32 decimal first (drop i s)) ≡ n + length (separated 32 decimal false (drop (i + 1) s))
     unfolding separated
@@ -72,6 +54,23 @@ module _ (x first : Bool) (s : List ℕ) (i left : ℕ) (known : x ≡ leb (leng
   pub room_end : length s ≤ i → true ≡ x
   unfolding separated
   room_end h = sym (known ∙ rw (drop_of_length-le s h) (le-leb 0 left (omega arith)))
+
+-- the first number has no space before it
+module _ (x : ℕ) (rest : List ℕ) (n room : ℕ) (e : n ≡ length (decimal x)) where
+  whole : length (separated 32 decimal true (x ∷ rest)) ≡ n + length (separated 32 decimal false rest)
+  unfolding separated
+  whole = rw e (length-append (decimal x) (separated 32 decimal false rest))
+
+  pub first_more : n ≤ room → leb (length (separated 32 decimal true (x ∷ rest))) room ≡ leb (length (separated 32 decimal false rest)) (room - n)
+  first_more h = rw whole (leb_shift n _ room h)
+
+  pub first_none : ¬ (n ≤ room) → false ≡ leb (length (separated 32 decimal true (x ∷ rest))) room
+  first_none h = sym (lt-leb _ _ (omega (arith, whole, h)))
+
+pub none_fit : (ns : List ℕ) (room : ℕ) → length ns ≡ 0 → true ≡ leb (length (separated 32 decimal true ns)) room
+unfolding separated
+none_fit [] room e = sym (le-leb 0 room (omega arith))
+none_fit (x ∷ ns) room e = absurd (omega (arith, e))
 
 -- the line that ends so, of an element that is not spoilt; n bytes stand before its path
 module _ (begin tail : List ℕ) (e : Element) (asns out : List ℕ) (r : Bool) (told : r ≡ spoilt e asns) (sound : r ≡ false) (n : ℕ) (size : n ≡ length begin) where
@@ -108,10 +107,6 @@ module _ (begin tail : List ℕ) (e : Element) (asns out : List ℕ) (r : Bool) 
 pub header_is : header_text ≡ ascii "type|timestamp|peer_ip|peer_asn|prefix|as_path|origin_asns|origin|next_hop|local_pref|med|communities|atomic|aggr_asn|aggr_ip|only_to_customer"
 unfolding header_text separated
 header_is = refl
-
-pub header_length : 142 ≡ length header_text
-unfolding header_text separated
-header_length = refl
 
 -- the fields joined are the parts one after another
 to_the_right : (x a b c d f p q g h i j z : List ℕ)

@@ -1,7 +1,7 @@
 // An element printed as the Rust prints it: the PSV line, its header, and Display.
 #![tactic(auto)]
 
-ghost use Rattle.std.specs.Prelude.{◌≡◌, ◌≤◌, ◌++◌, ◌+◌, ◌-◌, SomeIff, length, leb};
+ghost use Rattle.std.specs.Prelude.{ℕ, List, ◌≡◌, ◌≤◌, ◌++◌, ◌+◌, ◌-◌, SomeIff, length, leb};
 ghost use Rattle.output.specs.Output.{front, answer};
 ghost use Rattle.output.specs.Writing.{Writes};
 ghost use Rattle.seconds.specs.Seconds.{second_of};
@@ -16,6 +16,15 @@ use output::{PutError, Writer};
 pub enum ElementError {
     Spoilt,
     TooShort,
+}
+
+// What a line says of the table that its element comes from.
+#[derive(Debug, Clone, Copy, PartialEq)]
+pub struct Source {
+    pub announce: bool,
+    pub timestamp: f64,
+    pub peer_ip: IpAddr,
+    pub peer_asn: Asn,
 }
 
 // What stands before the path.
@@ -39,16 +48,16 @@ fn write_time(timestamp: f64, w: &mut Writer)
     }
 }
 
-fn write_front(announce: bool, timestamp: f64, peer_ip: IpAddr, peer_asn: Asn, w: &mut Writer)
-    ensures { Writes (front_text announce timestamp peer_ip peer_asn) w.old w.new }
+fn write_front(source: Source, w: &mut Writer)
+    ensures { Writes (front_text source.announce source.timestamp source.peer_ip source.peer_asn) w.old w.new }
 {
-    write_type(announce, w);
+    write_type(source.announce, w);
     w.byte(b'|');
-    write_time(timestamp, w);
+    write_time(source.timestamp, w);
     w.byte(b'|');
-    network_display::write_address(peer_ip, w);
+    network_display::write_address(source.peer_ip, w);
     w.byte(b'|');
-    decimal_display::write_u32(peer_asn.0, w);
+    decimal_display::write_u32(source.peer_asn.0, w);
 }
 
 // The field of the prefix, with the bars around it: at most 68 bytes.
@@ -63,11 +72,18 @@ pub fn write_between(prefix: NetworkPrefix, w: &mut Writer)
 fn write_begin(e: Element, w: &mut Writer)
     ensures { Writes (begin_text e) w.old w.new }
 {
-    write_front(e.announce, e.timestamp, e.peer_ip, e.peer_asn, w);
+    let source = Source {
+        announce: e.announce,
+        timestamp: e.timestamp,
+        peer_ip: e.peer_ip,
+        peer_asn: e.peer_asn,
+    };
+    write_front(source, w);
     write_between(e.prefix, w);
 }
 
-// What stands behind the path. It is inlined where it is printed, so that the writer stays in registers.
+// What stands after the path. It is inlined where it is printed, so that the writer stays in
+// registers.
 
 #[tactic(auto, unfolding(crate::specs::Line::number_text))]
 #[inline(always)]
@@ -127,98 +143,93 @@ fn has_room(numbers: &[u32], room: usize) -> bool
     if surely {
         return true;
     }
-    let mut left = room;
-    let mut first = true;
-    for number in numbers {
-        let n = aspath_display::number_len(first, b' ', *number);
-        let Some(rest) = left.checked_sub(n) else {
+    let Some((first, rest)) = numbers.split_first() else {
+        return true;
+    };
+    let Some(mut left) = room.checked_sub(decimal_display::decimal_len(u64::from(*first))) else {
+        return false;
+    };
+    for number in rest {
+        let n = 1 + decimal_display::decimal_len(u64::from(*number));
+        let Some(after) = left.checked_sub(n) else {
             return false;
         };
-        left = rest;
-        first = false;
+        left = after;
     }
     true
 }
 
 // The line that ends so: what stands before its path has at most 158 bytes.
 fn put_line(e: Element, asns: &[u32], tail: &[u8], out: &mut [u8]) -> Result<usize, ElementError>
-    requires { length tail.now ≤ 130 }
     ensures { Printed (spoilt e asns.now) (line_text tail.now e asns.now) out.old result out.new }
 {
     if elem::is_spoilt_element(e, asns) {
         return Err(ElementError::Spoilt);
     }
-    let mut begin = [0u8; 158];
-    let mut w = Writer {
-        out: &mut begin,
+    let mut places = [0; 158];
+    let mut begin = Writer {
+        out: &mut places,
         at: 0,
     };
-    write_begin(e, &mut w);
-    let n = w.at;
+    write_begin(e, &mut begin);
+    let begin = begin.text();
     let numbers = &asns[..e.count];
-    let Some(room) = out.len().checked_sub(n + tail.len()) else {
-        return Err(ElementError::TooShort);
-    };
+    let ends = begin.len() + tail.len();
+    let room = out.len().checked_sub(ends).ok_or(ElementError::TooShort)?;
     if !has_room(numbers, room) {
         return Err(ElementError::TooShort);
     }
     let mut w = Writer { out, at: 0 };
-    w.bytes(&begin[..n]);
+    w.bytes(begin);
     aspath_display::write_numbers(numbers, b' ', &mut w);
     w.bytes(tail);
     Ok(w.at)
 }
 
-pub fn to_psv(e: Element, asns: &[u32], out: &mut [u8]) -> Result<usize, ElementError>
-    ensures { Printed (spoilt e asns.now) (psv_text e asns.now) out.old result out.new }
+// The line whose tail `write` writes, of at most 130 bytes.
+#[inline(always)]
+fn put_ended<F: FnOnce(Element, &mut Writer)>(
+    write: F,
+    e: Element,
+    asns: &[u32],
+    out: &mut [u8],
+) -> Result<usize, ElementError>
+    requires { F.IsAlwaysCallable write }
+    ensures { (t : List ℕ) → length t ≤ 130 → ((v : _) (w : _) → F.post write e v tt w → Writes t v.now w.now) → Printed (spoilt e asns.now) (line_text t e asns.now) out.old result out.new }
 {
-    let mut places = [0u8; 130];
+    let mut places = [0; 130];
     let mut tail = Writer {
         out: &mut places,
         at: 0,
     };
-    write_tail(e, &mut tail);
-    let n = tail.at;
-    put_line(e, asns, &places[..n], out)
+    write(e, &mut tail);
+    put_line(e, asns, tail.text(), out)
+}
+
+pub fn to_psv(e: Element, asns: &[u32], out: &mut [u8]) -> Result<usize, ElementError>
+    ensures { Printed (spoilt e asns.now) (psv_text e asns.now) out.old result out.new }
+{
+    put_ended(write_tail, e, asns, out)
 }
 
 // Display of the element.
 pub fn display_element(e: Element, asns: &[u32], out: &mut [u8]) -> Result<usize, ElementError>
     ensures { Printed (spoilt e asns.now) (display_text e asns.now) out.old result out.new }
 {
-    let mut places = [0u8; 108];
-    let mut tail = Writer {
-        out: &mut places,
-        at: 0,
-    };
-    write_attributes(e, &mut tail);
-    let n = tail.at;
-    put_line(e, asns, &places[..n], out)
+    put_ended(write_attributes, e, asns, out)
 }
 
 // What a line begins with: the same for all elements of a peer and a time.
-pub fn put_front(
-    announce: bool,
-    timestamp: f64,
-    peer_ip: IpAddr,
-    peer_asn: Asn,
-    out: &mut [u8],
-) -> Result<usize, PutError>
-    ensures { (result ≡ answer (front_text announce timestamp peer_ip peer_asn) out.old) × (out.new ≡ front (front_text announce timestamp peer_ip peer_asn) out.old) }
+pub fn put_front(source: Source, out: &mut [u8]) -> Result<usize, PutError>
+    ensures { let text = front_text source.announce source.timestamp source.peer_ip source.peer_asn in (result ≡ answer text out.old) × (out.new ≡ front text out.old) }
 {
-    let mut text = [0u8; 90];
+    let mut places = [0; 90];
     let mut w = Writer {
-        out: &mut text,
+        out: &mut places,
         at: 0,
     };
-    write_front(announce, timestamp, peer_ip, peer_asn, &mut w);
-    let n = w.at;
-    if out.len() < n {
-        return Err(PutError::TooShort);
-    }
-    let mut w = Writer { out, at: 0 };
-    w.bytes(&text[..n]);
-    Ok(w.at)
+    write_front(source, &mut w);
+    output::put(w.text(), out)
 }
 
 // The line of texts that are at hand.
@@ -232,13 +243,13 @@ fn attributes_fit(e: Element, room: usize) -> bool
     if surely {
         return true;
     }
-    let mut places = [0u8; 108];
+    let mut places = [0; 108];
     let mut w = Writer {
         out: &mut places,
         at: 0,
     };
     write_attributes(e, &mut w);
-    2 + w.at <= room
+    2 + w.text().len() <= room
 }
 
 // What three lengths leave of the room; they may be too large to add up.
@@ -248,8 +259,8 @@ fn left_of(room: usize, a: usize, b: usize, c: usize) -> Option<usize>
     room.checked_sub(a)?.checked_sub(b)?.checked_sub(c)
 }
 
-// to_psv's line of texts that are not looked at: what stands before the path, the path and the origin AS. Of the element only its origin, next hop,
-// preference and metric are printed.
+// to_psv's line of texts that are not looked at: what stands before the path, the path and the
+// origin AS. Of the element only its origin, next hop, preference and metric are printed.
 pub fn put_texts(
     begin: &[u8],
     path: &[u8],
@@ -259,9 +270,8 @@ pub fn put_texts(
 ) -> Result<usize, PutError>
     ensures { (result ≡ answer (texts_line begin.now path.now origin_asn.now e) out.old) × (out.new ≡ front (texts_line begin.now path.now origin_asn.now e) out.old) }
 {
-    let Some(left) = left_of(out.len(), begin.len(), path.len(), origin_asn.len()) else {
-        return Err(PutError::TooShort);
-    };
+    let left = left_of(out.len(), begin.len(), path.len(), origin_asn.len());
+    let left = left.ok_or(PutError::TooShort)?;
     if !attributes_fit(e, left) {
         return Err(PutError::TooShort);
     }
@@ -278,13 +288,8 @@ pub fn put_texts(
 pub fn get_psv_header(out: &mut [u8]) -> Result<usize, PutError>
     ensures { (result ≡ answer header_text out.old) × (out.new ≡ front header_text out.old) }
 {
-    let short = out.len() < 142;
-    if short {
-        return Err(PutError::TooShort);
-    }
-    let mut w = Writer { out, at: 0 };
-    w.bytes(
+    output::put(
         b"type|timestamp|peer_ip|peer_asn|prefix|as_path|origin_asns|origin|next_hop|local_pref|med|communities|atomic|aggr_asn|aggr_ip|only_to_customer",
-    );
-    Ok(w.at)
+        out,
+    )
 }

@@ -28,13 +28,13 @@ use Rattle.packed.specs.Packed.{remembered_in}
 use Rattle.packed.specs.declared.Packed.{Packed}
 use Rattle.psv_stream.specs.Printed.{refusal_text, refuse, printed_element, answered, after, next_of}
 use Rattle.psv_stream.specs.Run.{Runs}
-use Rattle.psv_stream.specs.Parts.{Puts, acts, Steps, Came, element_for, routed, PutRoute, front_of, Begins, kept_len, state_of, phase_of, step_of, Fine, Kept, Keeps, BodyDoes}
+use Rattle.psv_stream.specs.Parts.{Puts, acts, Steps, Came, element_for, routed, PutRoute, front_of, Begins, kept_len, state_of, phase_of, step_of, Fine, Kept, Keeps, BodyDoes, BodySteps}
 use Rattle.psv_stream.specs.declared.Phase.{Phase}
 use Rattle.psv_stream.specs.declared.Phase.TheVariants.{Body, Stopped}
 use Rattle.psv_stream.specs.declared.Ran.{Ran}
 use Rattle.psv_stream.specs.Refusal.{number as number_of}
 use Rattle.psv_stream.specs.declared.Refusal.{Refusal}
-use Rattle.psv_stream.specs.declared.Place.{Place}
+use Rattle.psv_stream.specs.declared.body.Place.{Place}
 use Rattle.psv_stream.specs.declared.Step.{Step}
 use Rattle.psv_stream.specs.declared.Step.TheVariants as step
 use Rattle.psv_stream.proofs.Texts.{puts_none}
@@ -65,11 +65,11 @@ module _ (σ : State) (b : Place) (start : List ℕ) (n : ℕ) (kept : Kept σ s
   -- a line that only moves the state
   moves : (q : Packed) (k : ℕ) → next_of here l ≡ (end, moved σ (record { at = length l; remembered = plain (remembered_in q) })) → (out : List ℕ)
       → BodyDoes σ b l out out (step.Took (length l) 0 (there (length l) q k))
-  moves q k f out s = rw f (puts_none out, refl, omega arith)
+  moves q k f out = rw f (puts_none out, refl, omega arith)
 
   module _ (y : Line) (c : y ≡ line_of σ.columns l) where
     pub six : y ≡ read.Unreadable → (out new : List ℕ) (w : ℕ) → Puts (refusal_text 6 (after b.number)) out new w → BodyDoes σ b l out new (step.Stops w)
-    six h out new w d s = refused_does s (length l) out (acts (phase_of σ b) l) 6 (after b.number) (rw (unreadable_line_lem here l 16384 one fine_here y c h)) new w d
+    six h out new w d = refused_does l out (acts (phase_of σ b) l) 6 (after b.number) (rw (unreadable_line_lem here l 16384 one fine_here y c h)) new w d
 
     pub passed : y ≡ read.Passed → (out : List ℕ) → BodyDoes σ b l out out (step.Took (length l) 0 (there (length l) b.memory b.start_len))
     passed h =
@@ -159,14 +159,14 @@ module _ {σ : State} {b : Place} {start : List ℕ} {n : ℕ} {l : List ℕ} {x
 
   module _ (out new : List ℕ) (r : Result ℕ Refusal) (put : PutRoute σ p e (asns_of (path_of e l)) out new r) where
     pub route_wrote : (w k : ℕ) → r ≡ Ok w → BodyDoes σ b l out new (step.Took (length l) w (next_place k))
-    route_wrote w k f s =
+    route_wrote w k f =
         let h : PutRoute σ p e (asns_of (path_of e l)) out new (Ok w) = rw f at put in
         rw (acts_so, h.0 (after b.number) behind) (h.1, rw u.prefix, omega arith)
 
     pub route_refused : (z : Refusal) → r ≡ Err z → (newer : List ℕ) (w : ℕ) → Puts (refusal_text (number_of z) (after b.number)) new newer w → BodyDoes σ b l out newer (step.Stops w)
-    route_refused z f newer w d s =
+    route_refused z f newer w d =
         let h : PutRoute σ p e (asns_of (path_of e l)) out new (Err z) = rw f at put in
-        refused_does s (length l) out (acts (phase_of σ b) l) (number_of z) (after b.number) (acts_so ∙ h.0 (after b.number) behind) newer w (rw h.1 at d)
+        refused_does l out (acts (phase_of σ b) l) (number_of z) (after b.number) (acts_so ∙ h.0 (after b.number) behind) newer w (rw h.1 at d)
 
   -- behind what its line begins with
   module _ (k : ℕ) (short : k ≡ kept_len x b.start_len) (start' : List ℕ) (k' : ℕ) (printed : (f : List ℕ) → Begins f start n (remembered.Valid p) k → Begins f start' n (remembered.Valid p) k') where
@@ -211,8 +211,7 @@ module _ (σ : State) (b : Place) (s : List ℕ) (ended : Bool) (f : Front) (kno
 
   pub line_steps : (e : ℕ) → f ≡ front.Line e → (out new : List ℕ) (r : Step Place) → BodyDoes σ b (take e s) out new r
       → Steps (phase_of σ b) s ended out new (step_of σ r)
-  line_steps e g out new r d =
-      steps.line_steps (phase_of σ b) s ended 0 refl f known out new (step_of σ r) e g (rw (← line_size e g) at (d s))
+  line_steps e g out new r = steps.line_steps (phase_of σ b) s ended 0 refl f known out new (step_of σ r) e g
 
 -- the loop: where its lines have come to
 pub record At (σ : State) (number : ℕ) (s : List ℕ) (ended : Bool) (out₀ : List ℕ) (b : Place) (c w : ℕ) (out : List ℕ) : Type 0 where
@@ -237,17 +236,18 @@ module _ {σ : State} {number : ℕ} {s : List ℕ} {ended : Bool} {out₀ : Lis
   abbrev came : Came before s ended out₀ (phase_of σ b) c w out
   came = so_far.lines
 
-  -- no room
-  pub full : length out - w < 65537 → (r : Ran) → r ≡ record { phase = phase_of σ b; consumed = c; written = w; starved = false } → Runs before s ended out₀ r out
-  full h r e = rw e (loop.full before s ended out₀ (phase_of σ b) c w out came h)
-
   abbrev left' : List ℕ
   left' = left before s ended out₀ (phase_of σ b) c w out came
 
   abbrev room' : List ℕ
   room' = room before s ended out₀ (phase_of σ b) c w out came
 
-  module _ (part : List ℕ) (z : Step Place) (known : Steps (phase_of σ b) left' ended room' part (step_of σ z)) where
+  -- no room
+  pub full : (part : List ℕ) → (length room' < 65537) × (part ≡ room') → (r : Ran) → r ≡ record { phase = phase_of σ b; consumed = c; written = w; starved = false }
+      → Runs before s ended out₀ r (new before s ended out₀ (phase_of σ b) c w out came part)
+  full part none r e = rw e (loop.full before s ended out₀ (phase_of σ b) c w out came part none)
+
+  module _ (part : List ℕ) (z : Step Place) (known : BodySteps σ b left' ended room' part z) where
     abbrev new' : List ℕ
     new' = new before s ended out₀ (phase_of σ b) c w out came part
 

@@ -1,11 +1,14 @@
 -- Laws of a route's line that is put together from texts: a plain path's text is copied.
 use Rattle.std.specs.Prelude.{Result, Ok, Err, Option, Some, None}
-use Rattle.std.proofs.Common.{◌≡◌, ℕ, ◌+◌, ◌-◌, ◌%◌, ◌<◌, ◌≤◌, false, eqb, List, [], ◌∷◌, ◌++◌, map, length, get_or, take, drop, sym, refl, ap, ◌∙◌, subst, append_assoc, append-nil, add-one, arith, take-suc, take-add, ne_eqb, leb-true}
+use Rattle.std.proofs.Common.{◌≡◌, ℕ, ◌+◌, ◌-◌, ◌*◌, ◌/◌, ◌%◌, ◌^◌, ◌<◌, ◌≤◌, Fits, w64, false, eqb, List, [], ◌∷◌, ◌++◌, map, length, get_or, take, drop, sym, refl, ap, ◌∙◌, subst, append_assoc, append-nil, add-one, arith, length-take, take-suc, take-add, ne_eqb, leb-true}
+use native.Mathlib.Nat.{pow-le-pow_right}
+use Rattle.std.proofs.lemmas.Option.{none-some}
+use Rattle.std.specs.Result.{result_ok}
 use Rattle.output.specs.Output.{Written, front, answer}
 use Rattle.output.specs.declared.PutError.{PutError}
 use Rattle.output.specs.declared.PutError.TheVariants.{TooShort}
-use Rattle.word.specs.Word.{number, little_endian}
-use Rattle.word.proofs.Laws.{Bytes}
+use Rattle.word.specs.Word.{number, little_endian, bytes as word_bytes}
+use Rattle.word.proofs.Laws.{Bytes, number_back, byte_at, bytes_fit, take_bytes, drop_bytes, number_bound}
 use Rattle.decimal.specs.Decimal.{leading, first_digits}
 use Rattle.decimal_display.specs.Printed.{decimal}
 use Rattle.decimal_display.proofs.ReadBack.{digits_printed}
@@ -66,6 +69,20 @@ module _ (path : List ℕ) (at last n v : ℕ) (c : Copied path at last) (before
         asn = rw (back, size, digits) (rw next.1 at c.asn);
       }
 
+-- a word's bytes
+byte_of : (w k : ℕ) → w < 2 ^ 64 → w / 2 ^ (8 * k) % 256 ≡ get_or (little_endian w) k 0
+byte_of w k h = ap (λ (x : ℕ). x / 2 ^ (8 * k) % 256) (sym (number_back 7 w)) ∙ byte_at k (little_endian w) (bytes_fit 7 w h)
+
+first_byte : (w : ℕ) → w % 256 ≡ get_or (little_endian w) 0 0
+unfolding word_bytes
+first_byte w = refl
+
+-- what the tests of a word say of its bytes
+pub plain_number : (w n : ℕ) → Fits w64 w → n ≡ length (leading (little_endian w)) → (n ≡ 0 → ⊥) → n ≤ 7 → w / 2 ^ (8 * n) % 256 ≡ 32 → (w % 256 ≡ 48 → ⊥)
+    → PlainNumber (little_endian w) n
+plain_number w n f digits some few space zero =
+    record { digits = digits; some = omega (arith, some); few = few; no_zero = λ e. zero (first_byte w ∙ e); space = sym (byte_of w n f.fits) ∙ space }
+
 -- the turns of the loop, and its end
 module _ (path : List ℕ) (at last w : ℕ) (bytes : Bytes path) (c : Copied path at last) (q : w ≡ number (take 8 (drop at path))) where
   pub copied_ends : (n : ℕ) → n ≡ length (leading (little_endian w)) → n ≡ 0 → length path ≡ at + 1 → Spells path last (at - 1)
@@ -79,23 +96,35 @@ module _ (path : List ℕ) (at last w : ℕ) (bytes : Bytes path) (c : Copied pa
         asn = rw none at c.asn;
       }
 
+  fits : w < 2 ^ 64
+  fits =
+      let t = take 8 (drop at path) in
+      let bound : number t < 2 ^ (8 * length t) = number_bound t (take_bytes 8 (drop at path) (drop_bytes at path bytes)) in
+      let most : 2 ^ (8 * length t) ≤ 2 ^ 64 = pow-le-pow_right (omega arith) {j = 64} (omega (arith, length-take 8 (drop at path))) in
+      omega (arith, bound, most, q)
+
   module _ (r : Option ℕ) (told : PlainDigits w r) (n : ℕ) (k : r ≡ Some n) where
-    plain : PlainNumber w n
+    plain : PlainNumber (little_endian w) n
     plain = subst (PlainDigits w) k told
 
+    some : n ≡ 0 → ⊥
+    some z = omega (arith, plain.some)
+
+    space : w / 2 ^ (8 * n) % 256 ≡ 32
+    space = byte_of w n fits ∙ plain.space
+
     pub copied_inside : at + n < length path
-    copied_inside = counted_inside path at w n bytes q plain.count plain.few plain.space
+    copied_inside = counted_inside path at w n bytes q plain.digits plain.few space
 
     pub copied_more : Copied path (at + n + 1) at
     copied_more =
-        one_more path at last n (first_digits w).value c copied_inside printed
-        (counted_space path at w n bytes q plain.count plain.few plain.space) (counted_found path at w n bytes q plain.count plain.few plain.space plain.some)
+        one_more path at last n (first_digits w).value c copied_inside printed (counted_space path at w n bytes q plain.digits plain.few space) (counted_found path at w n bytes q plain.digits plain.few space some)
       where
-        first : get_or (take n (drop at path)) 0 0 ≡ w % 256
-        first = counted_first path at w n bytes q plain.count plain.few plain.space plain.some
+        first : get_or (take n (drop at path)) 0 0 ≡ get_or (little_endian w) 0 0
+        first = counted_first path at w n bytes q plain.digits plain.few space some ∙ first_byte w
 
         printed : take n (drop at path) ≡ decimal (first_digits w).value
-        printed = digits_printed (first_digits w).value (take n (drop at path)) (counted_digits path at w n bytes q plain.count plain.few plain.space plain.some) (λ e. plain.no_zero (sym first ∙ e))
+        printed = digits_printed (first_digits w).value (take n (drop at path)) (counted_digits path at w n bytes q plain.digits plain.few space some) (λ e. plain.no_zero (sym first ∙ e))
 
 -- what is told of a path that is plain
 module _ (path : List ℕ) (p : Option (ℕ × ℕ)) (told : IsPlain path p) (last end : ℕ) (f : p ≡ Some (last, end)) where
@@ -122,8 +151,12 @@ module _ (begin path : List ℕ) (e : Element) (out part : List ℕ) (last end :
       let y = part_put out part room text n (known (Ok n) f) new w v in
       (leb-true (length (asns_of path)) 16384 (sym (many_places path 16384 few)), y.0, y.1)
 
-  pub copied_short : (z : PutError) → r ≡ Err z → Copies begin path e out (part ++ drop 65536 out) None
-  copied_short TooShort f = whole_again out part room (known (Err TooShort) f).1
+  copied_short : (q : Result ℕ PutError) → Told text (take 65536 out) part q → result_ok q ≡ None → part ++ drop 65536 out ≡ out
+  copied_short (Ok n) h f = absurd (none-some n (sym f))
+  copied_short (Err TooShort) h f = whole_again out part room h.1
+
+  pub copied_none : result_ok r ≡ None → (w : Option ℕ) → w ≡ None → Copies begin path e out (part ++ drop 65536 out) w
+  copied_none f w g = rw g (copied_short r (known r refl) f)
 
 -- for the walk over a path
 pub ruleset walk_laws = (copied_starts, copied_ends, copied_inside, copied_more)

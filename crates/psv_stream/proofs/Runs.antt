@@ -1,5 +1,5 @@
 -- Lines taken one after another.
-use Rattle.std.proofs.Common.{◌≡◌, ℕ, ◌+◌, ◌-◌, ◌<◌, ◌≤◌, Bool, true, false, not, ◌⊎◌, List, [], ◌++◌, length, take, drop, sym, refl, ap, ◌∙◌, subst, inl, inr, ⊎_elim, append_assoc, append-nil, arith, length-append, length-drop, take-append-drop, drop_of_length-le, length-take, take_all, drop-drop}
+use Rattle.std.proofs.Common.{◌≡◌, ℕ, ◌+◌, ◌-◌, ◌<◌, ◌≤◌, Bool, true, false, ◌⊎◌, List, [], ◌++◌, length, take, drop, sym, refl, ap, ◌∙◌, subst, inl, inr, ⊎_elim, append_assoc, append-nil, arith, length-append, length-drop, take-append-drop, drop_of_length-le, length-take, take_all, drop-drop}
 use mathlib.Core.Bool.{false≢true}
 use lib.Seq.{take-append-add, drop-append-add}
 use Rattle.text_dump.specs.declared.State.{State}
@@ -16,10 +16,6 @@ use Rattle.psv_stream.proofs.Steps.{rest_stopped}
 pub none_yet : (p : Phase) (s : List ℕ) (ended : Bool) (out : List ℕ) → Came p s ended out p 0 0 out
 none_yet p s ended out = record { consumed = omega arith; written = omega arith; same = refl; kept = refl; prints = λ later none. refl }
 
-pub in_head : (p : Phase) (b : Bool) → b ≡ is_head p → not b ≡ false → is_head p ≡ true
-in_head p true k f = sym k
-in_head p false k f = absurd (false≢true (sym f))
-
 -- where lines have come to, a run may end
 module _ (p₀ : Phase) (s : List ℕ) (ended : Bool) (out₀ : List ℕ) (p : Phase) (c w : ℕ) (out : List ℕ) (came : Came p₀ s ended out₀ p c w out) where
   abbrev here : Bool → Ran
@@ -27,10 +23,6 @@ module _ (p₀ : Phase) (s : List ℕ) (ended : Bool) (out₀ : List ℕ) (p : P
 
   pub runs : (b : Bool) → (b ≡ true → Starved (drop c s) (header_bytes p) ended) → (b ≡ false → (p ≡ Stopped) ⊎ (length out₀ - w < 65537)) → Runs p₀ s ended out₀ (here b) out
   runs b input room = record { consumed = came.consumed; written = came.written; prints = came.prints; kept = came.kept; wants_input = input; wants_room = room }
-
-  -- there is no room for another line
-  pub full : length out - w < 65537 → Runs p₀ s ended out₀ (here false) out
-  full h = runs false (λ e. absurd (false≢true e)) (λ e. inr (omega (arith, came.same)))
 
   -- the next line is taken from what is left of the input, and written to what is left of the output
   abbrev pub left : List ℕ
@@ -69,6 +61,17 @@ module _ (p₀ : Phase) (s : List ℕ) (ended : Bool) (out₀ : List ℕ) (p : P
 
     pub same_new : length part ≡ length room → length new ≡ length out₀
     same_new h = rw new_is (rw length-append (omega (arith, size, room_length, came.written, came.same)))
+
+    -- there is no room for another line
+    module _ (none : (length room < 65537) × (part ≡ room)) where
+      pub same_out : new ≡ out
+      same_out = new_is ∙ rw (none.1, room_is) (take-append-drop w out)
+
+      pub little_left : length out₀ - w < 65537
+      little_left = omega (arith, none.0, room_length, came.same)
+
+      pub full : Runs p₀ s ended out₀ (here false) new
+      full = rw same_out (runs false (λ e. absurd (false≢true e)) (λ e. inr little_left))
 
     module _ (r : Step Phase) (known : Steps p left ended room part r) where
       steps : Steps p (drop c s) ended (drop w out) part r
@@ -148,14 +151,16 @@ module _ (p₀ : Phase) (s : List ℕ) (ended : Bool) (out₀ : List ℕ) (r : R
   no_input : {A : Type 0} → r.starved ≡ true → A
   no_input e = absurd (false≢true (sym going ∙ e))
 
-  -- there is no room for another line
-  pub full_head : length out - r.written < 65537 → Heads p₀ s ended out₀ r out
-  full_head h = record { came = came; wants_input = λ e. no_input e; wants_room = λ e f. omega (arith, came.same) }
-
   -- the head is over
-  pub at_body : (b : Bool) → b ≡ is_head r.phase → not b ≡ true → Heads p₀ s ended out₀ r out
-  at_body true k f = absurd (false≢true f)
-  at_body false k f = record { came = came; wants_input = λ e. no_input e; wants_room = λ e g. absurd (false≢true (k ∙ g)) }
+  pub at_body : (b : Bool) → b ≡ is_head r.phase → b ≡ false → Heads p₀ s ended out₀ r out
+  at_body b k f = record { came = came; wants_input = λ e. no_input e; wants_room = λ e g. absurd (false≢true (sym f ∙ k ∙ g)) }
+
+  -- there is no room for another line
+  pub head_full : (part : List ℕ) → (length (room p₀ s ended out₀ r.phase r.consumed r.written out came) < 65537) × (part ≡ room p₀ s ended out₀ r.phase r.consumed r.written out came)
+      → Heads p₀ s ended out₀ r (new p₀ s ended out₀ r.phase r.consumed r.written out came part)
+  head_full part none =
+      rw (same_out p₀ s ended out₀ r.phase r.consumed r.written out came part none)
+      (record { came = came; wants_input = λ e. no_input e; wants_room = λ e f. little_left p₀ s ended out₀ r.phase r.consumed r.written out came part none })
 
   module _ (part : List ℕ) (z : Step Phase) (known : Steps r.phase (left p₀ s ended out₀ r.phase r.consumed r.written out came) ended (room p₀ s ended out₀ r.phase r.consumed r.written out came) part z) where
     abbrev after : List ℕ
@@ -212,4 +217,4 @@ module _ (p₀ : Phase) (s : List ℕ) (ended : Bool) (out₀ : List ℕ) (h : R
     sum_within = runs_on.written
 
 -- for the loop over the head
-pub ruleset head_laws = (in_head, room_length, same_new, inside, within, stops_within)
+pub ruleset head_laws = (room_length, same_new, inside, within, stops_within)

@@ -1,5 +1,7 @@
 -- A line taken from the front of the bytes at hand: what is printed, and what is then to come, whatever comes later.
-use Rattle.std.proofs.Common.{◌≡◌, ℕ, ◌+◌, ◌-◌, ◌<◌, ◌≤◌, Bool, true, false, List, [], ◌∷◌, ◌++◌, length, take, drop, sym, refl, ap, ◌∙◌, append-nil, arith, length-append, length-drop, length-take, drop-drop, take-add, le-ltb, lt-ltb}
+use Rattle.std.proofs.Common.{◌≡◌, ℕ, ◌+◌, ◌-◌, ◌<◌, ◌≤◌, Bool, true, false, List, [], ◌∷◌, ◌++◌, length, take, drop, sym, refl, ap, ◌∙◌, append-nil, arith, length-append, length-drop, take-append-drop, length-take, take-take, drop-drop, take-add, le-ltb, lt-ltb}
+use Rattle.std.proofs.lemmas.List.{drop-take}
+use Rattle.std.specs.Array.{IsFirstChunk}
 use lib.Seq.{drop-append-le, take-append-le}
 use Rattle.scan.specs.Lines.{lines, line_end}
 use Rattle.scan.proofs.LineLaws.{line_at, line_end_inside, line_end_after, no_lines}
@@ -60,14 +62,22 @@ module _ (p : Phase) (s : List ℕ) (ended : Bool) (out new : List ℕ) where
         let k : header_bytes q ≤ length (drop c s) = rw length-drop (omega (arith, line.1)) in
         rw (stage_kept q (drop c s) later k, drop-append-le (header_bytes q) (drop c s) later k, drop-drop, h)
 
-    does_steps : (r : Step Phase) → Does (acts p (take e s)) s e out new r → Steps p s ended out new r
-    does_steps (step.Took c w q) d = (
-      omega (arith, line.0, d.2),
-      omega (arith, line.1, d.2),
-      d.0.1,
-      put_behind (acts p (take e s)).0 out new w d.0,
-      λ later none. rw (put_text (acts p (take e s)).0 out new w d.0) (line_rest later none ∙ rw (d.1, rest_next q c later d.2)),
-    )
+    -- what is left of a line is left of the bytes at hand
+    stage_there : (q : Phase) (c : ℕ) → c + header_bytes q ≡ e → stage_of q (drop c (take e s)) ≡ stage_of q (drop c s)
+    stage_there Path c h = refl
+    stage_there (Header t n size) c h = rw (← h, drop-take c size s, take-take size size (drop c s) (omega arith))
+    stage_there (Body σ n) c h = refl
+    stage_there Stopped c h = refl
+
+    does_steps : (r : Step Phase) → Does (acts p (take e s)) (take e s) out new r → Steps p s ended out new r
+    does_steps (step.Took c w q) d =
+        let end : c + header_bytes q ≡ e = d.2 ∙ rw length-take (omega (arith, line.1)) in (
+          omega (arith, line.0, end),
+          omega (arith, line.1, end),
+          d.0.1,
+          put_behind (acts p (take e s)).0 out new w d.0,
+          λ later none. rw (put_text (acts p (take e s)).0 out new w d.0) (line_rest later none ∙ rw (d.1, stage_there q c end, rest_next q c later end)),
+        )
     does_steps (step.Stops w) d = (
       d.0.1,
       put_behind (acts p (take e s)).0 out new w d.0,
@@ -135,7 +145,7 @@ module _ (p : Phase) (s : List ℕ) (ended : Bool) (at : ℕ) (here : at ≡ hea
   starved_steps g out = (refl, rw g at here_known)
 
   module _ (out new : List ℕ) where
-    pub line_steps : (r : Step Phase) (e : ℕ) → f ≡ front.Line e → Does (acts p (take e s)) s e out new r → Steps p s ended out new r
+    pub line_steps : (r : Step Phase) (e : ℕ) → f ≡ front.Line e → Does (acts p (take e s)) (take e s) out new r → Steps p s ended out new r
     line_steps r e g = does_steps p s ended out new e (rw g at here_known) r
 
     pub long_steps : (w : ℕ) → f ≡ front.TooLong → TooLong p out new w → Steps p s ended out new (step.Stops w)
@@ -143,6 +153,22 @@ module _ (p : Phase) (s : List ℕ) (ended : Bool) (at : ℕ) (here : at ≡ hea
 
     pub end_steps : (w : ℕ) → f ≡ front.Nothing → Ends p out new w → Steps p s ended out new (step.Stops w)
     end_steps w g = nothing_steps p s ended out new (rw g at here_known) w
+
+-- what is written to the first n bytes of the output, is written to the output
+module _ (p : Phase) (s : List ℕ) (ended : Bool) (out room new : List ℕ) (n : ℕ) (front : IsFirstChunk out room n) (size : length (new ++ drop n out) ≡ length out) where
+  wider : (w : ℕ) → w ≤ length room → drop w new ≡ drop w room → (w ≤ length out) × (drop w (new ++ drop n out) ≡ drop w out) × (take w (new ++ drop n out) ≡ take w new)
+  wider w h k =
+      let whole : room ++ drop n out ≡ out = rw front.same (take-append-drop n out) in
+      let same : length new ≡ length room = omega (arith, size, length-append new (drop n out), ap length whole, length-append room (drop n out)) in (
+        omega (arith, ap length whole, length-append room (drop n out)),
+        drop-append-le w new (drop n out) (omega arith) ∙ ap (λ (x : List ℕ). x ++ drop n out) k ∙ sym (drop-append-le w room (drop n out) h) ∙ ap (drop w) whole,
+        take-append-le w new (drop n out) (omega arith),
+      )
+
+  pub steps_wider : (r : Step Phase) → Steps p s ended room new r → Steps p s ended out (new ++ drop n out) r
+  steps_wider (step.Took c w q) h = let z = wider w h.2 h.3 in (h.0, h.1, z.0, z.1, rw z.2 h.4)
+  steps_wider (step.Stops w) h = let z = wider w h.0 h.1 in (z.0, z.1, rw z.2 h.2)
+  steps_wider step.Starved h = (rw (h.0, front.same) (take-append-drop n out), h.1)
 
 -- for a line of the head
 pub ruleset line_laws = (line_inside, starved_steps, line_steps)

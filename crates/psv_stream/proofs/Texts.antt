@@ -16,7 +16,7 @@ use Rattle.elem.specs.Element.{spoilt}
 use Rattle.elem.specs.declared.Element.{Element}
 use Rattle.aspath_display.specs.Display.{separated}
 use Rattle.psv.specs.Line.{header_text, psv_text, Printed}
-use Rattle.std.specs.Result.{IsErrAnd}
+use Rattle.std.specs.Result.{IsErrAnd, result_unwrap_or}
 use Rattle.psv.specs.declared.ElementError.{ElementError}
 use Rattle.psv.specs.declared.ElementError.TheVariants.{Spoilt, TooShort}
 use Rattle.psv_stream.specs.Printed.{feed, refusal_text}
@@ -110,16 +110,15 @@ header_length : length header_text ≡ 142
 unfolding header_text separated
 header_length = refl
 
-module _ (out : List ℕ) (room : 65537 ≤ length out) (r : Result ℕ PutError) (o : List ℕ) (told : (r ≡ answer header_text out) × (o ≡ front header_text out)) where
-  pub header_never_short : (z : PutError) → r ≡ Err z → Puts (header_text ++ feed) out o 0
-  header_never_short NoRoom e =
-      let z : Told header_text out o (Err NoRoom) = rw e at (told_by header_text out o r told) in
-      absurd (omega (arith, header_length, z.0))
+module _ (out : List ℕ) (room : 65537 ≤ length out) (o new : List ℕ) (w : ℕ) where
+  header_told : (r : Result ℕ PutError) → Told header_text out o r → (n : ℕ) → n ≡ result_unwrap_or r 0 → Written feed o n new w → Puts (header_text ++ feed) out new w
+  header_told (Ok k) z n e v = with_feed header_text out new w (omega (arith, header_length)) (rw (z.2, e, z.0) at v)
+  header_told (Err NoRoom) z n e v = absurd (omega (arith, header_length, z.0))
 
-  pub header_put : (n : ℕ) → r ≡ Ok n → (new : List ℕ) (w : ℕ) → Written feed o n new w → Puts (header_text ++ feed) out new w
-  header_put n e new w v =
-      let z : Told header_text out o (Ok n) = rw e at (told_by header_text out o r told) in
-      with_feed header_text out new w (omega (arith, header_length)) (rw (z.2, z.0) at v)
+  -- there is room for it, so the call answers its length
+  pub header_put : (r : Result ℕ PutError) → (r ≡ answer header_text out) × (o ≡ front header_text out) → (n : ℕ) → n ≡ result_unwrap_or r 0 → Written feed o n new w
+      → Puts (header_text ++ feed) out new w
+  header_put r told = header_told r (told_by header_text out o r told)
 
 -- a text put to the first 65,536 bytes, and a line feed behind it
 module _ (out part : List ℕ) (room : 65537 ≤ length out) where

@@ -1,5 +1,5 @@
 -- For the parts of a run: what the line comes to that comes next, and what is written of it.
-use Rattle.std.specs.Prelude.{◌≡◌, ℕ, ◌+◌, ◌-◌, ◌*◌, ◌/◌, ◌%◌, ◌^◌, ◌<◌, ◌≤◌, Bool, true, false, cond, List, [], ◌++◌, length, take, drop, nat_le, Result, Ok, Err, Option, Some, None}
+use Rattle.std.specs.Prelude.{◌≡◌, ℕ, ◌+◌, ◌-◌, ◌<◌, ◌≤◌, Bool, true, false, cond, List, [], ◌++◌, length, get_or, take, drop, nat_le, Result, Ok, Err, Option, Some, None}
 use Rattle.input.specs.Input.{Starved}
 use Rattle.word.specs.Word.{little_endian}
 use Rattle.decimal.specs.Decimal.{leading}
@@ -30,7 +30,7 @@ use Rattle.psv_stream.specs.declared.Step.TheVariants as step
 use Rattle.psv_stream.specs.declared.Ran.{Ran}
 use Rattle.psv_stream.specs.Refusal.{number}
 use Rattle.psv_stream.specs.declared.Refusal.{Refusal}
-use Rattle.psv_stream.specs.declared.Place.{Place}
+use Rattle.psv_stream.specs.declared.body.Place.{Place}
 use Rattle.psv_stream.specs.Run.{header_bytes, stage_of, Prints}
 
 -- what a line comes to that is not too long; of a header line, the text with all before it
@@ -77,16 +77,17 @@ pub record Spells (path : List ℕ) (last end : ℕ) : Type 0 where
   pub text : take end path ≡ sequence_text (asns_of path)
   pub asn : take (end - last) (drop last path) ≡ asn_text (origin_asn (asns_of path))
 
--- a word begins with n digits, which are a number of a plain path
-pub record PlainNumber (w n : ℕ) : Type 0 where
-  pub count : n ≡ length (leading (little_endian w))
-  pub some : n ≡ 0 → ⊥
+-- a text begins with a number of a plain path: n digits and no more, at most seven, the first of them no 0, and a space after them
+pub record PlainNumber (text : List ℕ) (n : ℕ) : Type 0 where
+  pub digits : n ≡ length (leading text)
+  pub some : 0 < n
   pub few : n ≤ 7
-  pub space : w / 2 ^ (8 * n) % 256 ≡ 32
-  pub no_zero : w % 256 ≡ 48 → ⊥
+  pub no_zero : get_or text 0 0 ≡ 48 → ⊥
+  pub space : get_or text n 0 ≡ 32
 
+-- the same of a word's bytes
 abbrev pub PlainDigits : ℕ → Option ℕ → Type 0
-PlainDigits w (Some n) = PlainNumber w n
+PlainDigits w (Some n) = PlainNumber (little_endian w) n
 PlainDigits w None = Unit {0}
 
 -- what is told of a plain path; of others nothing is
@@ -104,11 +105,11 @@ Copies begin path e out new (Some w) =
     (length (asns_of path) ≤ 16384) × (length (copied_text begin path e) ≤ 65536) × Puts (copied_text begin path e ++ feed) out new w
 Copies begin path e out new None = new ≡ out
 
--- a line that ends at e does what z says
-abbrev pub Does : P.Step → List ℕ → ℕ → List ℕ → List ℕ → Step Phase → Type 0
-Does z s e out new (step.Took c w q) = Puts z.0 out new w × (z.1 ≡ stage_of q (drop c s)) × (c + header_bytes q ≡ e)
-Does z s e out new (step.Stops w) = Puts z.0 out new w × (z.1 ≡ stopped)
-Does z s e out new step.Starved = ⊥
+-- a line's text l does what z says: of it are c bytes consumed, and the others are of header lines that have come
+abbrev pub Does : P.Step → List ℕ → List ℕ → List ℕ → Step Phase → Type 0
+Does z l out new (step.Took c w q) = Puts z.0 out new w × (z.1 ≡ stage_of q (drop c l)) × (c + header_bytes q ≡ length l)
+Does z l out new (step.Stops w) = Puts z.0 out new w × (z.1 ≡ stopped)
+Does z l out new step.Starved = ⊥
 
 -- whatever comes later
 abbrev pub Steps : Phase → List ℕ → Bool → List ℕ → List ℕ → Step Phase → Type 0
@@ -116,6 +117,11 @@ Steps p s ended out new (step.Took c w q) =
     (header_bytes p < c + header_bytes q) × (c + header_bytes q ≤ length s) × (w ≤ length out) × (drop w new ≡ drop w out) × Prints ended p s (take w new) q (drop c s)
 Steps p s ended out new (step.Stops w) = (w ≤ length out) × (drop w new ≡ drop w out) × Prints ended p s (take w new) Stopped []
 Steps p s ended out new step.Starved = (new ≡ out) × Starved s (header_bytes p) ended
+
+-- a line is taken where the output has room for what it may print
+abbrev pub IfRoom : {P : Type 0} → (List ℕ → List ℕ → Step P → Type 0) → List ℕ → List ℕ → Option (Step P) → Type 0
+IfRoom R out new (Some r) = R out new r
+IfRoom R out new None = (length out < 65537) × (new ≡ out)
 
 -- from p₀, with the input s and the output out₀, the lines taken have come to p, with c bytes consumed and w written to what is now out
 pub record Came (p₀ : Phase) (s : List ℕ) (ended : Bool) (out₀ : List ℕ) (p : Phase) (c w : ℕ) (out : List ℕ) : Type 0 where
@@ -187,6 +193,10 @@ step_of σ (step.Took c w b) = step.Took c w (phase_of σ b)
 step_of σ (step.Stops w) = step.Stops w
 step_of σ step.Starved = step.Starved
 
+-- whatever comes later, of a step of that loop
+abbrev pub BodySteps : State → Place → List ℕ → Bool → List ℕ → List ℕ → Step Place → Type 0
+BodySteps σ b s ended out new r = Steps (phase_of σ b) s ended out new (step_of σ r)
+
 -- a state that remembers m is not spoilt where a line starts
 abbrev pub Fine : State → Remembered → Type 0
 Fine σ m = spoilt (moved σ (record { at = 0; remembered = plain m })) 0 ≡ false
@@ -204,4 +214,4 @@ Keeps σ start n step.Starved = Unit {0}
 
 -- what a line does that is not too long
 abbrev pub BodyDoes : State → Place → List ℕ → List ℕ → List ℕ → Step Place → Type 0
-BodyDoes σ b l out new r = (s : List ℕ) → Does (acts (phase_of σ b) l) s (length l) out new (step_of σ r)
+BodyDoes σ b l out new r = Does (acts (phase_of σ b) l) l out new (step_of σ r)

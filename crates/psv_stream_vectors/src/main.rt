@@ -1,8 +1,9 @@
 // Runs the cases of `psv_stream` (data/cases.txt) and prints a line for each group.
 //
-// A question is the least size of the pieces in which the input comes, the input, and what is to be printed. Both texts are in hexadecimal, in
-// parts with commas between them; behind a part, `*` and a number repeat it. Each input comes in pieces of that size, of 3 times and 64 times that
-// size, and whole; of the output, no more is lent at first than a run asks for.
+// A question is the least size of the pieces in which the input comes, the input, and what is to be
+// printed. Both texts are in hexadecimal, in parts with commas between them; after a part, `*` and a
+// number repeat it. Each input comes in pieces of that size, of 3 times and 64 times that size, and
+// whole; of the output, no more is lent at first than a run asks for.
 #![tactic(auto)]
 
 use cases::{Answer, Program};
@@ -84,7 +85,7 @@ fn feed(d: Driven, input: &[u8], piece: usize, bytes: &mut [u8]) -> Driven {
 
 fn step(d: Driven, bytes: &mut [u8], room: usize, out: &mut [u8]) -> Driven {
     let start = d.printed.min(out.len());
-    let lent = path_cases::first_bytes(&mut out[start..], room);
+    let lent = cases::first_mut(&mut out[start..], room);
     let ran = psv_stream::run(d.phase, cases::part(bytes, 0, d.filled), d.ended, lent);
     Driven {
         phase: ran.phase,

@@ -1,17 +1,21 @@
 -- Laws of the lines of a text.
-use Prim.Native.Nat.{ℕ, ◌+◌, ◌-◌, ◌≤◌, ◌<◌, min}
-use mathlib.Core.Path.{◌≡◌, refl, sym, ap, ◌∙◌}
-use mathlib.Core.Bool.{Bool, true, false, cond, not, ◌||◌}
+use Prim.Native.Nat.{ℕ, zero, suc, ◌+◌, ◌-◌, ◌*◌, ◌/◌, ◌≤◌, ◌<◌, min}
+use Rattle.std.specs.Prelude.{Option, Some, None}
+use Rattle.std.specs.List.{position, position_from}
+use Rattle.std.proofs.lemmas.Iterator.Adapters.{position_from-zero}
+use Rattle.std.specs.Simd.{first_chunks}
+use mathlib.Core.Path.{◌≡◌, refl, sym, ap, subst, ◌∙◌}
+use mathlib.Core.Bool.{Bool, true, false, cond, not}
 use mathlib.Core.List.{List, [], ◌∷◌, ◌++◌, map, flatten, head_d, append-nil, append_assoc, nil≢cons, head-eq_of_cons-eq, tail-eq_of_cons-eq}
 use native.Mathlib.Omega.{arith}
 use lib.ListN.{length, get_or, take, drop, length-append, length-take, length-drop, take-append-drop, drop_of_length-le}
-use lib.Seq.{take_at, drop-drop}
+use lib.Seq.{take_all, take-add, take_at, drop-drop}
 use native.Mathlib.Nat.{add_assoc}
 use lib.Dec.{leb}
 use borrow.Author.Tests.{eq-eqb, ne_eqb, eqb-true, eqb-false, leb-true, leb-false}
-use Rattle.scan.specs.Lists.{onto, any_of, take_while, drop_while, end_while}
+use Rattle.scan.specs.Lists.{onto, all, take_while, drop_while, end_while}
 use Rattle.scan.specs.Lines.{is_feed, not_feed, lines, line_end, LineAt, Cut, Cuts}
-use Rattle.scan.proofs.ListLaws.{flatten_onto, take_while_drop_while, end_while_inside, scan_stop, scan_on, any_of_next, any_of_before, end_while_over}
+use Rattle.scan.proofs.ListLaws.{flatten_onto, take_while_drop_while, end_while_inside, scan_stop, scan_on, all_before, end_while_over, end_while_past, all_append}
 
 -- the scan for a line feed, byte by byte
 module _ (s : List ℕ) (at i : ℕ) (e : end_while not_feed s at ≡ end_while not_feed s i) where
@@ -20,19 +24,6 @@ module _ (s : List ℕ) (at i : ℕ) (e : end_while not_feed s at ≡ end_while 
 
   pub feed_later : i < length s → (get_or s i 0 ≡ 10 → ⊥) → end_while not_feed s at ≡ end_while not_feed s (i + 1)
   feed_later h n = scan_on not_feed s at i e 0 h (simp (ne_eqb (get_or s i 0) 10 n))
-
-  -- and 64 bytes at a time
-  pub feed_far : (r : Bool) → 64 ≤ length s - i → r ≡ any_of is_feed (take 64 (drop i s)) → r ≡ false → end_while not_feed s at ≡ end_while not_feed s (i + 64)
-  feed_far r h q n = e ∙ end_while_over is_feed s 64 i 0 (omega arith) (sym q ∙ n)
-
--- the test of 64 bytes: the first k of them are seen
-pub near_none : (s : List ℕ) (at : ℕ) → false ≡ any_of is_feed (take 0 (drop at s))
-unfolding any_of
-near_none s at = refl
-
-module _ (s : List ℕ) (at k : ℕ) (near : Bool) (e : near ≡ any_of is_feed (take k (drop at s))) where
-  pub near_more : at + 64 ≤ length s → k < 64 → (near || is_feed (get_or s (at + k) 0)) ≡ any_of is_feed (take (k + 1) (drop at s))
-  near_more h l = sym (any_of_next is_feed s at k 0 (omega arith) ∙ rw e)
 
 -- the least place of a line feed, with the first k bytes seen; 64 as long as none has come
 pub record Least (s : List ℕ) (at k first : ℕ) : Type 0 where
@@ -61,10 +52,77 @@ module _ (s : List ℕ) (at k first : ℕ) (e : Least s at k first) where
       go true f false u q = seen (leb-false k first u) (omega (arith, leb-false k first u))
       go false f false u q = seen (leb-false k first u) (omega (arith, leb-false k first u))
 
--- a line feed among 64 bytes stands at the least place
-pub feed_least : (s : List ℕ) (at i r : ℕ) (q : Bool) → end_while not_feed s at ≡ end_while not_feed s i → q ≡ any_of is_feed (take 64 (drop i s)) → q ≡ true
-    → r ≡ min 64 (length (take_while not_feed (drop i s))) → i + r ≡ end_while not_feed s at
-feed_least s at i r q e f t m = omega (arith, any_of_before is_feed 64 (drop i s) (sym f ∙ t))
+-- a chunk of 64 bytes with a line feed, and none in front of it
+record Chunk (t : List ℕ) (n i : ℕ) : Type 0 where
+  inside : i < n
+  front : all not_feed (take (64 * i) t) ≡ true
+  here : all not_feed (take 64 (drop (64 * i) t)) ≡ false
+
+abbrev ChunkIn : List ℕ → ℕ → ℕ → Option ℕ → Type 0
+ChunkIn t n j (Some k) = (i : ℕ) × (k ≡ j + i) × Chunk t n i
+ChunkIn t n j None = all not_feed (take (64 * n) t) ≡ true
+
+abbrev has_feed : List ℕ → Bool
+has_feed c = not (all not_feed c)
+
+chunk_over : (t : List ℕ) (m : ℕ) → all not_feed (take 64 t) ≡ true → all not_feed (take (64 * m) (drop 64 t)) ≡ true → all not_feed (take (64 * suc m) t) ≡ true
+chunk_over t m f g =
+    let k : 64 * suc m ≡ 64 + 64 * m = omega arith in
+    rw (k, take-add, all_append, f, g) refl
+
+chunk_in : (n j : ℕ) (t : List ℕ) → ChunkIn t n j (position_from has_feed j (first_chunks 64 n t))
+unfolding all
+chunk_in zero j t = refl
+chunk_in (suc n) j t = go (all not_feed (take 64 t)) refl (position_from has_feed (j + 1) (first_chunks 64 n (drop 64 t))) (chunk_in n (j + 1) (drop 64 t))
+  where
+    go : (z : Bool) → all not_feed (take 64 t) ≡ z → (r : Option ℕ) → ChunkIn (drop 64 t) n (j + 1) r → ChunkIn t (suc n) j (cond (not z) (Some j) r)
+    go false e r h = (0, omega arith, record { inside = omega arith; front = refl; here = e })
+    go true e None h = chunk_over t n e h
+    go true e (Some k) (i, q, h) =
+        let m : 64 * suc i ≡ 64 + 64 * i = omega arith in
+        let w : drop (64 * suc i) t ≡ drop (64 * i) (drop 64 t) = rw (m, drop-drop) refl in
+        (suc i, omega arith, record { inside = omega (arith, h.inside); front = chunk_over t i e h.front; here = rw w h.here })
+
+-- the chunks of a text from a place on
+module _ (s : List ℕ) (at : ℕ) (h : at < length s) (cs : List (List ℕ)) (f : Option ℕ) where
+  abbrev left : List ℕ
+  left = take (length s - at) (drop at s)
+
+  left_all : left ≡ drop at s
+  left_all = take_all (length s - at) (drop at s) (rw length-drop (omega arith))
+
+  left_size : length left ≡ length s - at
+  left_size = ap length left_all ∙ length-drop at s
+
+  module _ (q : cs ≡ first_chunks 64 (length left / 64) left) (u : f ≡ position has_feed cs) where
+    found : ChunkIn (drop at s) (length left / 64) 0 f
+    found =
+        let e : f ≡ position_from has_feed 0 (first_chunks 64 (length left / 64) left) =
+        u ∙ ap (position has_feed) q ∙ position_from-zero has_feed (first_chunks 64 (length left / 64) left) in
+        rw e (subst (λ (t : List ℕ). ChunkIn t (length left / 64) 0 (position_from has_feed 0 (first_chunks 64 (length left / 64) left))) left_all (chunk_in (length left / 64) 0 left))
+
+    feed_in : (i r : ℕ) → Chunk (drop at s) (length left / 64) i → r ≡ min 64 (length (take_while not_feed (drop (at + 64 * i) s))) → at + 64 * i + r ≡ end_while not_feed s at
+    feed_in i r w m =
+        let over = end_while_over not_feed s (64 * i) at 0 (omega (arith, w.inside, left_size)) w.front in
+        let d : drop (64 * i) (drop at s) ≡ drop (at + 64 * i) s = drop-drop (64 * i) at s in
+        let b : length (take_while not_feed (drop (at + 64 * i) s)) < 64 = all_before not_feed 64 (drop (at + 64 * i) s) (rw d at w.here) in
+        omega (arith, over, b, m)
+
+    pub feed_chunk : (k r : ℕ) → f ≡ Some k → r ≡ min 64 (length (take_while not_feed (drop (at + 64 * k) s))) → at + 64 * k + r ≡ end_while not_feed s at
+    feed_chunk k r e m =
+        let (i, y, w) : ChunkIn (drop at s) (length left / 64) 0 (Some k) = rw e at found in
+        let z : i ≡ k = omega arith in
+        feed_in k r (rw z at w) m
+
+    pub feed_rest : (e : ℕ) → length cs ≡ length left / 64 → f ≡ None → e ≡ end_while not_feed s (at + 64 * length cs) → e ≡ end_while not_feed s at
+    feed_rest e l n m =
+        let w : ChunkIn (drop at s) (length left / 64) 0 None = rw n at found in
+        m ∙ sym (end_while_over not_feed s (64 * length cs) at 0 (omega (arith, l, left_size)) (rw l w))
+
+pub feed_past : (s : List ℕ) (at : ℕ) → length s ≤ at → at ≡ end_while not_feed s at
+feed_past s at h = sym (end_while_past not_feed s at h)
+
+pub ruleset chunk_laws = (feed_past, feed_chunk, feed_rest)
 
 -- the lines, put together, are the text
 pub flatten_lines : (s : List ℕ) → flatten (lines s) ≡ s

@@ -1,16 +1,18 @@
 -- Laws of lists cut by a test of their elements.
-use Prim.Native.Nat.{ℕ, zero, suc, ◌+◌, ◌≤◌, ◌<◌, max}
+use Rattle.std.specs.Prelude.{Option, Some}
+use Rattle.std.specs.Option.{unwrap_or}
+use Rattle.std.specs.List.{position, position_from}
+use Rattle.std.proofs.lemmas.Iterator.Adapters.{position_from-zero}
+use Prim.Native.Nat.{ℕ, zero, suc, ◌+◌, ◌-◌, ◌≤◌, ◌<◌}
 use mathlib.Core.Path.{◌≡◌, refl, sym, ap, ◌∙◌}
-use mathlib.Core.Bool.{Bool, true, false, cond, not, ◌||◌, or_assoc, or-false, false≢true}
+use mathlib.Core.Bool.{Bool, true, false, cond, not, ◌&&◌, and_assoc, and-true, false≢true}
 use mathlib.Core.List.{List, [], ◌∷◌, ◌++◌, flatten, nil≢cons}
 use native.Mathlib.Omega.{arith}
 use native.Mathlib.Nat.{add-zero}
 use native.Mathlib.Numerals.{add-one}
 use lib.ListN.{length, get_or, take, drop, length-append, length-drop, drop_of_length-le}
-use lib.Seq.{take_at, drop_at, drop-cons, drop-drop, take-suc, get_or-drop}
-use lib.Dec.{leb}
-use borrow.Author.Tests.{leb-true, leb-false}
-use Rattle.scan.specs.Lists.{onto, non_empty, any_of, take_while, drop_while, end_while, split_by, tokens_by}
+use lib.Seq.{take_all, take_at, drop_at, drop-cons, drop-drop, take-suc}
+use Rattle.scan.specs.Lists.{onto, non_empty, all, take_while, drop_while, end_while, split_by, tokens_by}
 
 pub flatten_onto : {A : Type 0} (x : A) (l : List (List A)) → flatten (onto x l) ≡ x ∷ flatten l
 unfolding onto flatten
@@ -63,16 +65,6 @@ module _ {A : Type 0} (p : A → Bool) where
 
   -- a scan: the end sought from `at` on is the one from i on
   module _ (s : List A) (at i : ℕ) (e : end_while p s at ≡ end_while p s i) where
-    pub scan_end : length s ≤ i → i ≡ end_while p s at
-    scan_end h = sym (e ∙ end_while_past s i h)
-
-    pub scan_out : length s ≤ i → (at ≤ length s → i ≤ length s) → max at (length s) ≡ end_while p s at
-    scan_out h l = go (leb at (length s)) refl
-      where
-        go : (z : Bool) → leb at (length s) ≡ z → max at (length s) ≡ end_while p s at
-        go true f = omega (arith, scan_end h, leb-true at (length s) f, l (leb-true at (length s) f))
-        go false f = let past : length s < at = leb-false at (length s) f in omega (arith, end_while_past s at (omega arith))
-
     pub scan_stop : (d : A) → i < length s → p (get_or s i d) ≡ false → i ≡ end_while p s at
     unfolding take_while
     scan_stop d h f = sym (e ∙ rw (drop-cons s i d h, f) (add-zero i))
@@ -81,29 +73,60 @@ module _ {A : Type 0} (p : A → Bool) where
     unfolding take_while
     scan_on d h f = e ∙ rw (drop-cons s i d h, f, add-one) (omega arith)
 
-  -- whether one of the next elements passes
-  any_of_append : (a b : List A) → any_of p (a ++ b) ≡ (any_of p a || any_of p b)
-  unfolding any_of
-  any_of_append [] b = refl
-  any_of_append (x ∷ a) b = rw (any_of_append a b) (sym (or_assoc (p x) (any_of p a) (any_of p b)))
-
-  pub any_of_next : (s : List A) (i k : ℕ) (d : A) → i + k < length s → any_of p (take (k + 1) (drop i s)) ≡ (any_of p (take k (drop i s)) || p (get_or s (i + k) d))
-  unfolding any_of
-  any_of_next s i k d h =
-      let l : k < length (drop i s) = rw length-drop (omega arith) in
-      rw (add-one, take-suc (drop i s) k d l, any_of_append, get_or-drop) (rw or-false)
-
-  -- where one of the first n passes, fewer stand before the first that does
-  pub any_of_before : (n : ℕ) (s : List A) → any_of p (take n s) ≡ true → length (take_while (λ x. not (p x)) s) < n
-  unfolding any_of take_while
-  any_of_before zero s e = absurd (false≢true e)
-  any_of_before (suc n) [] e = absurd (false≢true e)
-  any_of_before (suc n) (x ∷ s) e = go (p x) e (any_of_before n s)
+  -- the scan ends at the first element that does not pass, else at the list's end
+  place_from : (n : ℕ) (t : List A) → unwrap_or (position_from (λ x. not (p x)) n t) (n + length t) ≡ n + length (take_while p t)
+  unfolding take_while
+  place_from n [] = refl
+  place_from n (x ∷ t) = go (p x) (place_from (n + 1) t)
     where
-      go : (z : Bool) → (z || any_of p (take n s)) ≡ true → (any_of p (take n s) ≡ true → length (take_while (λ x. not (p x)) s) < n)
-          → length (cond (not z) (x ∷ take_while (λ x. not (p x)) s) []) < suc n
-      go true e ih = omega arith
-      go false e ih = let h : length (take_while (λ x. not (p x)) s) < n = ih e in omega arith
+      go : (z : Bool) → unwrap_or (position_from (λ x. not (p x)) (n + 1) t) (n + 1 + length t) ≡ n + 1 + length (take_while p t)
+          → unwrap_or (cond (not z) (Some n) (position_from (λ x. not (p x)) (n + 1) t)) (n + suc (length t)) ≡ n + length (cond z (x ∷ take_while p t) [])
+      go false e = omega arith
+      go true e =
+          let k : n + suc (length t) ≡ n + 1 + length t = omega arith in
+          let m : n + suc (length (take_while p t)) ≡ n + 1 + length (take_while p t) = omega arith in
+          rw (k, m) e
+
+  pub end_while_position : (s : List A) (at : ℕ) → at < length s → (f : Option ℕ) → f ≡ position (λ x. not (p x)) (take (length s - at) (drop at s))
+      → at + unwrap_or f (length (take (length s - at) (drop at s))) ≡ end_while p s at
+  end_while_position s at h f q =
+      let t : take (length s - at) (drop at s) ≡ drop at s = take_all (length s - at) (drop at s) (rw length-drop (omega arith)) in
+      let e : f ≡ position_from (λ x. not (p x)) 0 (drop at s) = q ∙ ap (position (λ x. not (p x))) t ∙ position_from-zero (λ x. not (p x)) (drop at s) in
+      let a : 0 + length (drop at s) ≡ length (drop at s) = omega arith in
+      let b : 0 + length (take_while p (drop at s)) ≡ length (take_while p (drop at s)) = omega arith in
+      rw (t, e) (ap (λ n. at + n) (rw (a, b) at (place_from 0 (drop at s))))
+
+  -- whether all elements pass, of a list in two parts and with one element more
+  pub all_append : (l m : List A) → all p (l ++ m) ≡ (all p l && all p m)
+  unfolding all
+  all_append [] m = refl
+  all_append (x ∷ l) m = ap (λ b. p x && b) (all_append l m) ∙ sym (and_assoc (p x) (all p l) (all p m))
+
+  pub all_next : (l : List A) (i : ℕ) (d : A) → i < length l → all p (take (i + 1) l) ≡ (all p (take i l) && p (get_or l i d))
+  unfolding all
+  all_next l i d h = rw (add-one, take-suc l i d h, all_append) (rw and-true)
+
+  pub pass_none : true ≡ all p []
+  unfolding all
+  pass_none = refl
+
+  module _ (s : List A) (i : ℕ) (r : Bool) (e : r ≡ all p (take i s)) where
+    pub pass_next : (d : A) → i < length s → (r && p (get_or s i d)) ≡ all p (take (i + 1) s)
+    pass_next d h = sym (all_next s i d h ∙ rw e)
+
+    pub pass_all : length s ≤ i → r ≡ all p s
+    pass_all h = e ∙ ap (all p) (take_all i s h)
+
+  -- where one of the first n does not pass, fewer stand before the first that does not
+  pub all_before : (n : ℕ) (s : List A) → all p (take n s) ≡ false → length (take_while p s) < n
+  unfolding all take_while
+  all_before zero s e = absurd (false≢true (sym e))
+  all_before (suc n) [] e = absurd (false≢true (sym e))
+  all_before (suc n) (x ∷ s) e = go (p x) e (all_before n s)
+    where
+      go : (z : Bool) → (z && all p (take n s)) ≡ false → (all p (take n s) ≡ false → length (take_while p s) < n) → length (cond z (x ∷ take_while p s) []) < suc n
+      go true e ih = let h : length (take_while p s) < n = ih e in omega arith
+      go false e ih = omega arith
 
   -- what is behind it starts with an element that does not pass
   pub drop_while_head : (s : List A) (x : A) (t : List A) → drop_while p s ≡ x ∷ t → p x ≡ false
@@ -176,20 +199,22 @@ module _ {A : Type 0} (p : A → Bool) where
       token_size = rw (drop-cons s (end_while p s i) d h, drop_while_head (drop i s) (get_or s (end_while p s i) d) (drop (suc (end_while p s i)) s) split) (omega arith)
 
 module _ {A : Type 0} (p : A → Bool) where
-  -- where none of the next n elements passes, one that does is sought behind them
-  pub end_while_over : (s : List A) (n i : ℕ) (d : A) → i + n ≤ length s → any_of p (take n (drop i s)) ≡ false
-      → end_while (λ x. not (p x)) s i ≡ end_while (λ x. not (p x)) s (i + n)
-  unfolding any_of
+  -- where each of the next n elements passes, one that does not is sought behind them
+  pub end_while_over : (s : List A) (n i : ℕ) (d : A) → i + n ≤ length s → all p (take n (drop i s)) ≡ true → end_while p s i ≡ end_while p s (i + n)
+  unfolding all
   end_while_over s zero i d h f = rw add-zero
   end_while_over s (suc n) i d h f = go (p (get_or s i d)) refl (rw (drop-cons s i d l) at f) (λ g. end_while_over s n (i + 1) d (omega arith) (rw add-one g))
     where
       l : i < length s
       l = omega arith
 
-      go : (z : Bool) → p (get_or s i d) ≡ z → (z || any_of p (take n (drop (suc i) s))) ≡ false
-          → (any_of p (take n (drop (suc i) s)) ≡ false → end_while (λ x. not (p x)) s (i + 1) ≡ end_while (λ x. not (p x)) s (i + 1 + n))
-          → end_while (λ x. not (p x)) s i ≡ end_while (λ x. not (p x)) s (i + suc n)
-      go true e f ih = let z : ◌≡◌ {A = ℕ} 0 1 = cc in absurd (omega arith)
-      go false e f ih =
+      go : (z : Bool) → p (get_or s i d) ≡ z → (z && all p (take n (drop (suc i) s))) ≡ true
+          → (all p (take n (drop (suc i) s)) ≡ true → end_while p s (i + 1) ≡ end_while p s (i + 1 + n))
+          → end_while p s i ≡ end_while p s (i + suc n)
+      go false e f ih = absurd (false≢true f)
+      go true e f ih =
           let k : i + suc n ≡ i + 1 + n = omega arith in
-          scan_on (λ x. not (p x)) s i i refl d l (rw e) ∙ ih f ∙ rw k
+          scan_on p s i i refl d l e ∙ ih f ∙ rw k
+
+-- what a loop over all elements uses
+pub ruleset passed_laws = (pass_none, pass_next, pass_all)

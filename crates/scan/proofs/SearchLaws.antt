@@ -1,16 +1,15 @@
 -- Laws of byte strings compared and searched for.
-use Rattle.std.specs.Prelude.{Some, None}
-use Prim.Native.Nat.{ℕ, zero, suc, ◌+◌, ◌-◌, ◌≤◌, ◌<◌}
+use Rattle.std.specs.Prelude.{Option, Some, None, MatchOption}
+use Prim.Native.Nat.{ℕ, zero, suc, ◌+◌, ◌≤◌, ◌<◌}
 use mathlib.Core.Path.{◌≡◌, refl, sym, ap, ◌∙◌}
 use mathlib.Core.Bool.{Bool, true, false, cond, ◌&&◌}
 use mathlib.Core.List.{List, [], ◌∷◌, ◌++◌}
 use native.Mathlib.Omega.{arith}
 use native.Mathlib.Nat.{add-zero}
-use lib.ListN.{length, take, drop, length-drop, length-append, take-append-drop}
-use lib.Seq.{drop-drop, drop-nil, take_at, take_all}
-use lib.Dec.{eqb}
-use borrow.Author.Tests.{eq-eqb, eqb-true}
-use borrow.Author.Count.{below_more}
+use lib.ListN.{length, take, drop, length-append, take-append-drop}
+use lib.Seq.{drop-drop, drop-nil, take_at}
+use lib.Dec.{eqb, leb}
+use borrow.Author.Tests.{eq-eqb, eqb-true, le-leb}
 use Rattle.std.specs.Cmp.Lexicographic.{pointwise}
 use Rattle.scan.specs.Search.{equal, starts_with, find_from, find_in}
 
@@ -61,9 +60,6 @@ starts_with_split s p e = sym (take-append-drop (length p) s) ∙ rw (equal_path
 pub starts_with_length : (s p : List ℕ) → starts_with s p ≡ true → length p ≤ length s
 starts_with_length s p e = omega (arith, simp length-append at (ap length (starts_with_split s p e)))
 
-whether : (s p : List ℕ) (i : ℕ) (r : Bool) → r ≡ starts_with (take (length s - i) (drop i s)) p → starts_with (drop i s) p ≡ r
-whether s p i r q = sym (q ∙ rw (take_all (length s - i) (drop i s) (rw length-drop (omega arith))))
-
 -- the first place at which p stands, as a search that goes from place to place finds it
 first_from : (i : ℕ) (s p : List ℕ) (n : ℕ) → n ≤ length s → starts_with (drop n s) p ≡ true
     → ((j : ℕ) → j < n → starts_with (drop j s) p ≡ false) → find_from i s p ≡ Some (i + n)
@@ -81,14 +77,18 @@ nowhere_from i [] p b = rw (b 0 (omega arith))
 nowhere_from i (x ∷ s) p b =
     rw (b 0 (omega arith), nowhere_from (i + 1) s p (λ j l. b (suc j) (omega arith)))
 
-module _ (s p : List ℕ) (i : ℕ) (b : (j : ℕ) → j < i → starts_with (drop j s) p ≡ false) where
-  pub found_here : i ≤ length s → (r : Bool) → r ≡ starts_with (take (length s - i) (drop i s)) p → r ≡ true → Some i ≡ find_in s p
-  found_here h r q y = let z : 0 + i ≡ i = omega arith in rw z at (sym (first_from 0 s p i h (whether s p i r q ∙ y) b))
+abbrev stands_at : List ℕ → List ℕ → ℕ → Bool
+stands_at s p k = leb k (length s) && starts_with (drop k s) p
 
-  pub found_nowhere : length s ≡ i → (r : Bool) → r ≡ starts_with (take (length s - i) (drop i s)) p → r ≡ false → None ≡ find_in s p
-  found_nowhere h r q n =
-      let w : starts_with (drop i s) p ≡ false = whether s p i r q ∙ n in
-      sym (nowhere_from 0 s p (λ j l. below_more (λ k. starts_with (drop k s) p ≡ false) i b w j (omega arith)))
+pub search_found : (s p : List ℕ) (r : Option ℕ)
+    → MatchOption r ((k : ℕ) → 0 ≤ k → k < length s + 1 → stands_at s p k ≡ false) (λ i. (0 ≤ i) × (i < length s + 1) × (stands_at s p i ≡ true) × ((k : ℕ) → 0 ≤ k → k < i → stands_at s p k ≡ false))
+    → r ≡ find_in s p
+search_found s p None h = sym (nowhere_from 0 s p (λ j l. rw (le-leb j (length s) (omega arith)) at (h j (omega arith) l)))
+search_found s p (Some i) h =
+    let l : i < length s + 1 = h.1 in
+    let z : 0 + i ≡ i = omega arith in
+    let y : starts_with (drop i s) p ≡ true = rw (le-leb i (length s) (omega arith)) at h.2 in
+    rw z at (sym (first_from 0 s p i (omega arith) y (λ j m. rw (le-leb j (length s) (omega arith)) at (h.3 j (omega arith) m))))
 
 -- p stands at the place i of s, and at no earlier one
 pub record First (s p : List ℕ) (i : ℕ) : Type 0 where

@@ -1,5 +1,5 @@
 -- Lists cut by a test of their elements.
-use Rattle.std.specs.Prelude.{ℕ, ◌+◌, Bool, false, cond, ◌||◌, List, [], ◌∷◌, length, drop}
+use Rattle.std.specs.Prelude.{ℕ, ◌+◌, Bool, true, false, cond, ◌&&◌, ◌||◌, List, [], ◌∷◌, length, drop}
 
 -- an element put in front of the first list
 unfoldable pub onto : {A : Type 0} → A → List (List A) → List (List A)
@@ -13,6 +13,11 @@ non_empty ([] ∷ l) = non_empty l
 non_empty ((x ∷ w) ∷ l) = (x ∷ w) ∷ non_empty l
 
 module _ {A : Type 0} (p : A → Bool) where
+  -- every element passes the test
+  unfoldable pub all : List A → Bool
+  all [] = true
+  all (x ∷ s) = let r = all s in p x && r
+
   -- whether an element passes (mathlib's `any` is shut: it computes nowhere outside its module)
   unfoldable pub any_of : List A → Bool
   any_of [] = false

@@ -1,23 +1,45 @@
 // Byte-wise scanning: lines, words, comparison and search.
 #![tactic(auto)]
 
-ghost use Rattle.std.specs.Prelude.{ℕ, Bool, ◌≡◌, cond, ◌+◌, ◌≤◌, ◌<◌, min, length, take, drop};
-ghost use Rattle.scan.specs.Lists.{any_of, take_while, end_while};
+ghost use Rattle.std.specs.Prelude.{ℕ, Bool, ◌≡◌, cond, ◌+◌, ◌≤◌, ◌<◌, min, length, drop, not, leb, ◌&&◌};
+ghost use Rattle.std.specs.List.{position};
+ghost use Rattle.scan.specs.Lists.{all, take_while, end_while};
 ghost use Rattle.scan.specs.Lines.{is_feed, not_feed, line_end};
 ghost use Rattle.scan.specs.Words.{is_gap, not_gap, next_word};
 ghost use Rattle.scan.specs.Search.{equal, starts_with, find_in};
 
-// Whether one of the 64 bytes from `at` on is a line feed. There is no branch: the compiler makes
-// vector comparisons of it.
-fn feed_near(s: &[u8], at: usize) -> bool
-    requires { at + 64 ≤ length s.now }
-    ensures { result ≡ any_of is_feed (take 64 (drop at s.now)) }
+// A test of a byte. A trait, since a public function that takes a closure has to require that it
+// may be called.
+pub trait ByteTest {
+    ghost passing: { ℕ → Bool };
+
+    fn passes(b: u8) -> bool
+        ensures { result ≡ passing b };
+}
+
+// Whether every byte passes. There is no branch: the compiler makes vector comparisons of it.
+#[inline(always)]
+#[tactic(auto, using(crate::proofs::ListLaws::passed_laws))]
+pub fn all_pass<T: ByteTest>(s: &[u8]) -> bool
+    ensures { result ≡ all T.passing s.now }
 {
-    let mut near = false;
-    for k in 0..64 {
-        near = near | (s[at + k] == b'\n');
+    let mut all = true;
+    for b in s {
+        all &= T::passes(*b);
     }
-    near
+    all
+}
+
+struct NotFeed;
+
+impl ByteTest for NotFeed {
+    ghost use Rattle.scan.specs.Lines.{not_feed};
+
+    ghost passing = { not_feed };
+
+    fn passes(b: u8) -> bool {
+        b != b'\n'
+    }
 }
 
 // The place k of a byte that is a line feed; 64 for another.
@@ -35,6 +57,7 @@ fn first_near(s: &[u8], at: usize) -> usize
     ensures { result ≡ min 64 (length (take_while not_feed (drop at s.now))) }
 {
     let mut first: u8 = 64;
+    // Stays over places: their least is the answer, and pairs of a place and a byte are no plainer.
     for k in 0..64 {
         first = first.min(place_of(s[at + k], k));
     }
@@ -46,30 +69,33 @@ fn end_while<P: Fn(u8) -> bool>(s: &[u8], at: usize, passes: P) -> usize
     requires { P.IsAlwaysCallable passes }
     ensures { (p : ℕ → Bool) → ((b : ℕ) (r : Bool) → P.post passes b r → r ≡ p b) → result ≡ end_while p s.now at }
 {
-    for i in at..s.len() {
-        if !passes(s[i]) {
-            return i;
-        }
+    if s.len() <= at {
+        return at;
     }
-    at.max(s.len())
+    let rest = &s[at..];
+    at + rest.iter().position(|b| !passes(*b)).unwrap_or(rest.len())
+}
+
+// The first of the chunks that has a line feed.
+fn first_chunk(chunks: &[[u8; 64]]) -> Option<usize>
+    ensures { result ≡ position (λ c. not (all not_feed c)) chunks.now }
+{
+    chunks.iter().position(|chunk| !all_pass::<NotFeed>(chunk))
 }
 
 // The place of the next line feed, else the end, with 64 bytes looked at at a time.
+#[tactic(auto, using(crate::proofs::LineLaws::chunk_laws))]
 fn feed_at(s: &[u8], at: usize) -> usize
     ensures { result ≡ end_while not_feed s.now at }
 {
     if s.len() <= at {
         return at;
     }
-    let mut i = at;
-    // Stays a while: the step is 64 or the rest, which no range says.
-    while 64 <= s.len() - i {
-        if feed_near(s, i) {
-            return i + first_near(s, i);
-        }
-        i += 64;
+    let (chunks, _rest) = s[at..].as_chunks::<64>();
+    match first_chunk(chunks) {
+        Some(k) => at + 64 * k + first_near(s, at + 64 * k),
+        None => end_while(s, at + 64 * chunks.len(), NotFeed::passes),
     }
-    end_while(s, i, |b| b != b'\n')
 }
 
 pub fn line_end(s: &[u8], at: usize) -> usize
@@ -110,15 +136,16 @@ pub fn starts_with(s: &[u8], p: &[u8]) -> bool
     s.starts_with(p)
 }
 
+// Whether the pattern stands at the place.
+fn stands_at(s: &[u8], at: usize, p: &[u8]) -> bool
+    ensures { result ≡ (leb at (length s.now) && starts_with (drop at s.now) p.now) }
+{
+    at <= s.len() && starts_with(&s[at..], p)
+}
+
 // The empty pattern stands at the place 0.
-#[tactic(auto, using(crate::proofs::SearchLaws::found_here))]
 pub fn find(s: &[u8], p: &[u8]) -> Option<usize>
     ensures { result ≡ find_in s.now p.now }
 {
-    for at in 0..=s.len() {
-        if starts_with(&s[at..], p) {
-            return Some(at);
-        }
-    }
-    None
+    (0..s.len() + 1).find(|at| stands_at(s, *at, p))
 }

@@ -1,6 +1,6 @@
 -- Timestamps (01, Records): an f64 holding a whole number, -62167219200 to 253402300799, never negative zero. It counts seconds from 1970.
 -- A second is the same moment counted from the start of the year 0, a number from 0 to 315569519999.
-use Rattle.std.specs.Prelude.{is_some, ℕ, ◌+◌, ◌-◌, Bool, true, false, cond, List, pos, from_bits, nat_le, nat_lt, Float, Option, Some, None}
+use Rattle.std.specs.Prelude.{is_some, ℕ, ◌+◌, ◌-◌, ◌%◌, Bool, false, cond, List, pos, from_bits, nat_le, nat_lt, Float, Option, Some, None}
 use Rattle.std.specs.Float.{fin, binary64}
 use Rattle.std.specs.Float.Ieee.{lt, neg, in_unsigned, to_unsigned, of_int}
 use Rattle.decimal_display.specs.Printed.{difference}
@@ -31,6 +31,10 @@ timestamp_of second =
 -- whether t is a timestamp
 abbrev pub is_timestamp : Float → Bool
 is_timestamp t = is_some (second_of t)
+
+-- the float of these bits, of which a NaN's are none
+abbrev pub float_of_bits : ℕ → Option Float
+float_of_bits bits = cond (nat_lt 0x7ff0_0000_0000_0000 (bits % 0x8000_0000_0000_0000)) None (Some (from_bits binary64 bits))
 
 -- the timestamp whose bits these are
 abbrev pub if_timestamp : Float → Option Float

@@ -1,11 +1,11 @@
-// The timestamp that state and element hold: an f64 that counts whole seconds from 1970, from the year 0 to the year 9999.
-// Here a second is a u64 counted from the start of the year 0.
+// The timestamp that state and element hold: an f64 that counts whole seconds from 1970, from the
+// year 0 to the year 9999. Here a second is a u64 counted from the start of the year 0.
 #![tactic(auto)]
 
 ghost use Rattle.std.specs.Prelude.{◌≡◌, ◌≤◌, length};
 ghost use Rattle.output.specs.Writing.{Writes};
 ghost use Rattle.output.specs.Output.{front, answer};
-ghost use Rattle.seconds.specs.Seconds.{whole_number, second_of, timestamp_of, is_timestamp, timestamp_of_bits, timestamp_text};
+ghost use Rattle.seconds.specs.Seconds.{whole_number, second_of, timestamp_of, is_timestamp, float_of_bits, timestamp_of_bits, timestamp_text};
 
 use output::{PutError, Writer};
 
@@ -53,7 +53,8 @@ pub fn is_timestamp(t: f64) -> bool
     second_of(t).is_some()
 }
 
-// The timestamp of a second, exact for every second of the years 0 to 9999; beyond them the nearest float.
+// The timestamp of a second, exact for every second of the years 0 to 9999; beyond them the nearest
+// float.
 pub fn timestamp_of(second: u64) -> f64
     ensures { result ≡ timestamp_of second }
 {
@@ -64,16 +65,26 @@ pub fn timestamp_of(second: u64) -> f64
     }
 }
 
-// The timestamp whose bits these are. They come from anywhere: those of a NaN are refused before they become a float.
-#[tactic(auto, using(crate::proofs::Bits::of_nan, crate::proofs::Bits::of_number, crate::proofs::Answers::bits_one, crate::proofs::Answers::bits_none))]
-pub fn timestamp_of_bits(bits: u64) -> Option<f64>
-    ensures { result ≡ timestamp_of_bits bits }
+// The float whose bits these are; None for those of a NaN, which are not determined once they are a
+// float.
+#[tactic(auto, using(crate::proofs::Bits::of_number))]
+pub fn float_of_bits(bits: u64) -> Option<f64>
+    ensures { result ≡ float_of_bits bits }
 {
     let nan = bits % 0x8000_0000_0000_0000 > 0x7ff0_0000_0000_0000;
     if nan {
-        return None;
+        None
+    } else {
+        Some(f64::from_bits(bits))
     }
-    let t = f64::from_bits(bits);
+}
+
+// The timestamp whose bits these are. They come from anywhere.
+#[tactic(auto, using(crate::proofs::Bits::of_nan, crate::proofs::Bits::bits_none))]
+pub fn timestamp_of_bits(bits: u64) -> Option<f64>
+    ensures { result ≡ timestamp_of_bits bits }
+{
+    let t = float_of_bits(bits)?;
     second_of(t)?;
     Some(t)
 }
@@ -94,10 +105,11 @@ pub fn write_timestamp(second: u64, w: &mut Writer)
 pub fn put_timestamp(second: u64, out: &mut [u8]) -> Result<usize, PutError>
     ensures { (result ≡ answer (timestamp_text second) out.old) × (out.new ≡ front (timestamp_text second) out.old) }
 {
-    if out.len() < timestamp_len(second) {
-        return Err(PutError::TooShort);
-    }
-    let mut w = Writer { out, at: 0 };
+    let mut places = [0; 21];
+    let mut w = Writer {
+        out: &mut places,
+        at: 0,
+    };
     write_timestamp(second, &mut w);
-    Ok(w.at)
+    output::put(w.text(), out)
 }

@@ -1,4 +1,5 @@
-// The reader of a table in parts: opening, next and turn, by a state that each call takes and hands back.
+// The reader of a table in parts: opening, next and turn, by a state that each call takes and hands
+// back.
 #![tactic(auto)]
 
 ghost use Rattle.std.specs.Prelude.{◌≡◌, length, take};
@@ -13,7 +14,6 @@ ghost use Rattle.text_dump.specs.Next.{stepped, next as next_of, at_route, Answe
 use columns::Columns;
 use elem::Element;
 use network::{Asn, IpAddr, NetworkPrefix};
-use path_text::AsnsError;
 use text_dump_header::{HeaderError, TextDumpHeader};
 use text_dump_line::{Line, PrefixText, RouteEntry};
 
@@ -34,7 +34,8 @@ pub struct State {
     pub position: usize,
 }
 
-// Why no table is opened (01, Where a call says no): 4, 1 with the number of the unreadable line, 2.
+// Why no table is opened (01, Where a call says no): 4, 1 with the number of the unreadable line,
+// and 2.
 #[derive(Debug, Clone, Copy, PartialEq, Eq)]
 pub enum OpenError {
     NoTimestamp,
@@ -188,9 +189,10 @@ impl State {
         )
     }
 
-    // Passes lines until one yields. The state is that after the element's line or at the part's end, and in a refusal the one that
-    // was handed in. An element's AS numbers stand in the lent list from place 0 on. The loop is not a function of its own: what it
-    // comes to would cross through an enum whose variants do not lie alike.
+    // Passes lines until one yields. The state is that after the element's line or at the part's end,
+    // and in a refusal the one that was handed in. An element's AS numbers stand in the lent list from
+    // place 0 on. Kept in one function: the enum that the loop would answer has variants that differ
+    // in layout, and is copied in memory.
     #[tactic(auto, using(crate::proofs::NextLaws::next_laws))]
     pub fn next(self, part: &[u8], asns: &mut [u32]) -> (State, Result<Option<Element>, NextError>)
         ensures { Answers (next_of self part.now (length asns.old)) asns.old result asns.new }

@@ -78,17 +78,6 @@ ascii_whole t c r h q first last f = go first (rising_order c (sym q ∙ f)) las
       path_slice = ascii_slice t c.path (length t) h (omega arith) (omega arith);
     }
 
--- the columns of a whole line
-module _ (t : List ℕ) (c : Columns) (w : Bool) (h : w ≡ true → Whole c t) (f : w ≡ true) where
-  pub prefix_whole : has_slice t 3 c.next_hop ≡ true
-  prefix_whole = (h f).prefix_slice
-
-  pub hop_whole : has_slice t c.next_hop c.metric ≡ true
-  hop_whole = (h f).hop_slice
-
-  pub path_whole : has_slice t c.path (length t) ≡ true
-  path_whole = (h f).path_slice
-
 -- the end of an ASCII line is trimmed
 pub trimmed_ascii : (s t : List ℕ) (z : Bool) → z ≡ all is_one s → t ≡ trim_end s → z ≡ true → all is_one t ≡ true
 trimmed_ascii s t z q e f = ap (all is_one) e ∙ trim_end_all s is_one (sym q ∙ f)
@@ -116,25 +105,26 @@ module _ (t : List ℕ) (a b : ℕ) (x : List ℕ) (e : x ≡ slice a b t) where
   pub number_read : (r : Option ℕ) → r ≡ read_u32 (trim x) → r ≡ read_u32 (column a b t)
   number_read r f = f ∙ ap read_u32 trimmed
 
-  pub prefix_read : (r : Option NetworkPrefix) → r ≡ read_prefix (trim x) → r ≡ read_prefix (column a b t)
-  prefix_read r f = f ∙ ap read_prefix trimmed
+  pub prefix_read : (r : PrefixText) → r ≡ prefix_text (trim x) → r ≡ prefix_text (column a b t)
+  prefix_read r f = f ∙ ap prefix_text trimmed
 
-  -- the prefix text
-  module _ (z : Bool) (q : z ≡ eqb (length (trim x)) 0) where
-    pub blank : z ≡ true → Blank ≡ prefix_text (column a b t)
-    blank f = no_text (column a b t) (ap length (sym trimmed) ∙ eqb-true (length (trim x)) 0 (sym q ∙ f))
+  pub wrapped_read : (r : Option NetworkPrefix) → r ≡ read_prefix (trim x) → r ≡ read_prefix (column a b t)
+  wrapped_read r f = f ∙ ap read_prefix trimmed
 
-    module _ (n : z ≡ false) (r : Option NetworkPrefix) (h : r ≡ read_prefix (trim x)) where
-      text : prefix_text (column a b t) ≡ prefix_as r
-      text =
-          some_text (column a b t) (λ y. eqb-false (length (trim x)) 0 (sym q ∙ n) (ap length trimmed ∙ y))
-          ∙ ap prefix_as (sym (prefix_read r h))
+-- the prefix text of a column, by its trimmed text
+module _ (s : List ℕ) (z : Bool) (q : z ≡ eqb (length s) 0) where
+  pub blank : z ≡ true → Blank ≡ prefix_text s
+  blank f = no_text s (eqb-true (length s) 0 (sym q ∙ f))
 
-      pub valid : (p : NetworkPrefix) → r ≡ Some p → Valid p ≡ prefix_text (column a b t)
-      valid p f = sym (text ∙ ap prefix_as f)
+  module _ (n : z ≡ false) (r : Option NetworkPrefix) (h : r ≡ read_prefix s) where
+    text : prefix_text s ≡ prefix_as r
+    text = some_text s (eqb-false (length s) 0 (sym q ∙ n)) ∙ ap prefix_as (sym h)
 
-      pub invalid : r ≡ None → Invalid ≡ prefix_text (column a b t)
-      invalid f = sym (text ∙ ap prefix_as f)
+    pub valid : (p : NetworkPrefix) → r ≡ Some p → Valid p ≡ prefix_text s
+    valid p f = sym (text ∙ ap prefix_as f)
+
+    pub invalid : r ≡ None → Invalid ≡ prefix_text s
+    invalid f = sym (text ∙ ap prefix_as f)
 
 pub starts_displayed : (t x : List ℕ) (r : Bool) → x ≡ trim_start t → r ≡ starts_with x (ascii "Displayed") → r ≡ displayed t
 unfolding displayed
@@ -210,7 +200,7 @@ too_long_lem t n h = rw (lt-leb (length t) n h)
 
 pub wrapped : (t : List ℕ) (n : ℕ) → length t ≤ n → (x : List ℕ) → x ≡ slice 3 (length t) t → (r : Option NetworkPrefix) → r ≡ read_prefix (trim x) → r ≡ wrapped_of n t
 unfolding wrapped_of
-wrapped t n h x e r f = rw (le-leb (length t) n h) (prefix_read t 3 (length t) x e r f)
+wrapped t n h x e r f = rw (le-leb (length t) n h) (wrapped_read t 3 (length t) x e r f)
 
 -- the whole line
 module _ (s : List ℕ) (c : Columns) (b : Bool) (qb : b ≡ readable s) where
@@ -239,7 +229,7 @@ pub ruleset whole_laws = (no_whole, ascii_whole)
 -- for slice
 pub ruleset slice_laws = (slice_order, slice_inside, slice_there, slice_missing)
 
--- for prefix_at
+-- for prefix_text
 pub ruleset prefix_text_laws = (blank, valid, invalid)
 
 -- for is_displayed
@@ -249,10 +239,10 @@ pub ruleset displayed_laws = (starts_displayed, starts_otherwise)
 pub ruleset path_start_laws = (path_there, path_missing)
 
 -- for entry_of
-pub ruleset entry_laws = (path_whole, part_inside, entry)
+pub ruleset entry_laws = (part_inside, entry)
 
 -- for route_in
-pub ruleset route_laws = (prefix_whole, hop_whole, is_displayed, no_address)
+pub ruleset route_laws = (is_displayed, no_address)
 
 -- for parse_wrapped_prefix_line
 pub ruleset wrapped_laws = (too_long_lem, wrapped)

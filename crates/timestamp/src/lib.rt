@@ -31,7 +31,8 @@ fn has_shape(shape: &[u8], s: &[u8]) -> bool
     true
 }
 
-// What a digit counts. Every byte and every place has an answer, so that nothing is asked of the caller.
+// What a digit counts. Every byte and every place has an answer, so that nothing is asked of the
+// caller.
 fn digit(s: &[u8], at: usize) -> u32
     ensures { (result ≡ get_or s.now at 0 - 48) × (result < 256) }
 {
@@ -107,6 +108,7 @@ fn first_place<F: Fn(usize) -> bool>(path: &[u8], test: F) -> Option<usize>
     ensures within { IfSome result (λ i. i < length path.now) }
     ensures first { (p : ℕ → Bool) → ((i : ℕ) (b : Bool) → i < length path.now → F.post test i b → b ≡ p i) → result ≡ first_place p path.now }
 {
+    // Stays a for: with `(0..n).find(..)` it was not proved that the test may be called.
     for i in 0..path.len() {
         if test(i) {
             return Some(i);

@@ -1,14 +1,14 @@
 -- Laws of lists whose elements all pass a test, and of lists whose elements are mapped.
 use mathlib.Core.Path.{◌≡◌, refl, sym, ap, ◌∙◌}
 use mathlib.Core.List.{List, [], ◌∷◌, ◌++◌, append_assoc, map, flatten}
-use mathlib.Core.Bool.{Bool, true, ◌&&◌, and_assoc, and-true}
+use mathlib.Core.Bool.{Bool, true, ◌&&◌}
 use Prim.Native.Nat.{ℕ, zero, suc, ◌+◌, ◌<◌}
 use native.Mathlib.Omega.{arith}
-use native.Mathlib.Numerals.{add-one}
 use lib.ListN.{length, get_or, take, drop, take-append-drop}
-use lib.Seq.{take-suc, take-add}
+use lib.Seq.{take-add}
 use Rattle.utf8.specs.Utf8.{all}
 use Rattle.utf8.proofs.TestLaws.{both}
+pub use Rattle.scan.proofs.ListLaws.{all_append, all_next}
 
 pub flatten_append : {A : Type 0} (l m : List (List A)) → flatten (l ++ m) ≡ flatten l ++ flatten m
 unfolding flatten
@@ -16,24 +16,14 @@ flatten_append [] m = refl
 flatten_append (x ∷ l) m = ap (λ r. x ++ r) (flatten_append l m) ∙ sym (append_assoc x (flatten l) (flatten m))
 
 module _ {A : Type 0} (p : A → Bool) where
-  pub all_append : (l m : List A) → all p (l ++ m) ≡ (all p l && all p m)
-  unfolding all
-  all_append [] m = refl
-  all_append (x ∷ l) m = ap (λ b. p x && b) (all_append l m) ∙ sym (and_assoc (p x) (all p l) (all p m))
-
   pub all_parts : (l m : List A) → all p (l ++ m) ≡ true → (all p l ≡ true) × (all p m ≡ true)
-  all_parts l m e = both (all p l) (all p m) (sym (all_append l m) ∙ e)
-
-  -- one element more, and some
-  pub all_next : (l : List A) (i : ℕ) (d : A) → i < length l → all p (take (i + 1) l) ≡ (all p (take i l) && p (get_or l i d))
-  unfolding all
-  all_next l i d h = rw (add-one, take-suc l i d h, all_append) (rw and-true)
+  all_parts l m e = both (all p l) (all p m) (sym (all_append p l m) ∙ e)
 
   pub all_more : (l : List A) (i n : ℕ) → all p (take (i + n) l) ≡ (all p (take i l) && all p (take n (drop i l)))
-  all_more l i n = rw take-add (all_append (take i l) (take n (drop i l)))
+  all_more l i n = rw take-add (all_append p (take i l) (take n (drop i l)))
 
   pub all_split : (l : List A) (i : ℕ) → all p l ≡ (all p (take i l) && all p (drop i l))
-  all_split l i = ap (all p) (sym (take-append-drop i l)) ∙ all_append (take i l) (drop i l)
+  all_split l i = ap (all p) (sym (take-append-drop i l)) ∙ all_append p (take i l) (drop i l)
 
   pub all_at : (l : List A) (i : ℕ) (d : A) → all p l ≡ true → i < length l → p (get_or l i d) ≡ true
   unfolding all

@@ -10,7 +10,7 @@ use lib.Seq.{take_all, take-take}
 use borrow.Author.Tests.{leb-true, lt-ltb, not-true, not-false}
 use Rattle.utf8.specs.Utf8.{is_one, char_len, piece_len, chars_from, chars, is_char, all, readable}
 use Rattle.utf8.proofs.TestLaws.{both}
-use Rattle.utf8.proofs.ListLaws.{all_append, all_parts, all_next, all_more, all_split}
+use Rattle.utf8.proofs.ListLaws.{all_append, all_parts, all_more, all_split}
 use Rattle.utf8.proofs.CharLaws.{Begins, char_one, char_within}
 use Rattle.utf8.proofs.CharsLaws.{chars_more, char_piece, chars_append, chars_of_front, chars_of_rest}
 
@@ -48,19 +48,12 @@ ascii_readable s r e t = sym (go s (sym e ∙ t))
         let one : char_len (b ∷ s) ≡ 1 = sym (char_one (b ∷ s) (λ z. omega arith) (omega (arith, leb-true b 0x7F (both (is_one b) (all is_one s) e).0))) in
         readable_more (b ∷ s) (omega arith) ∙ simp one (go s (both (is_one b) (all is_one s) e).1)
 
--- is it ASCII, byte by byte: the first i bytes are seen
+-- is it ASCII, with 64 bytes at a time
 pub seen_none : true ≡ all is_one []
 unfolding all
 seen_none = refl
 
-module _ (s : List ℕ) (i : ℕ) (ascii : Bool) (e : ascii ≡ all is_one (take i s)) where
-  pub seen_next : i < length s → (ascii && is_one (get_or s i 0)) ≡ all is_one (take (i + 1) s)
-  seen_next h = sym (all_next is_one s i 0 h ∙ rw e)
-
-  pub seen_all : length s ≤ i → ascii ≡ all is_one s
-  seen_all h = e ∙ ap (all is_one) (take_all i s h)
-
--- and with 64 bytes at a time: those in front of the place i are ASCII, and the next 64 have been looked at
+-- those in front of the place i are ASCII, and the next 64 have been looked at
 module _ (s : List ℕ) (i : ℕ) (r : Bool) (q : r ≡ all is_one (take (i + 64 - i) (drop i s))) where
   next : r ≡ all is_one (take 64 (drop i s))
   next = let z : i + 64 - i ≡ 64 = omega arith in rw z at q
@@ -95,8 +88,6 @@ readable_parts s l m e h =
     (ap (all is_char) (chars_of_front l m s e) ∙ r.0, ap (all is_char) (chars_of_rest l m s e) ∙ r.1)
 
 -- what the loops use
-pub ruleset seen_laws = (seen_none, seen_next, seen_all)
-
 pub ruleset ascii_laws = (seen_none, ascii_bad, ascii_more, ascii_last)
 
 pub ruleset readable_laws = (char_within, readable_end, readable_bad, readable_next, readable_ascii)

@@ -1,6 +1,8 @@
 -- UTF-8 (RFC 3629), said of any bytes. Of a byte past the end 0 is read, which is no UTF8-tail.
-use Rattle.std.specs.Prelude.{ℕ, zero, suc, ◌+◌, ◌-◌, ◌*◌, ◌/◌, ◌%◌, max, Bool, true, cond, ◌&&◌, ◌||◌, get_or, take, leb, ltb, eqb}
+use Rattle.std.specs.Prelude.{ℕ, zero, suc, ◌+◌, ◌-◌, ◌*◌, ◌/◌, ◌%◌, max, Bool, cond, ◌&&◌, ◌||◌, get_or, take, leb, ltb, eqb}
 use mathlib.Core.List.{List, [], ◌∷◌, map, flatten}
+-- every element passes the test
+unfoldable pub use Rattle.scan.specs.Lists.{all}
 
 -- %xLO-HI
 abbrev pub within : ℕ → ℕ → ℕ → Bool
@@ -59,11 +61,6 @@ chars s = chars_from 0 s
 -- one of these is a UTF8-char, and no byte that begins none
 abbrev pub is_char : List ℕ → Bool
 is_char p = ltb 0 (char_len p)
-
--- every element passes the test
-unfoldable pub all : {A : Type 0} → (A → Bool) → List A → Bool
-all p [] = true
-all p (x ∷ s) = let r = all p s in p x && r
 
 -- UTF8-octets = *( UTF8-char ). Readable is 01's term for a line that is UTF-8
 abbrev pub readable : List ℕ → Bool

@@ -5,6 +5,8 @@ ghost use Rattle.std.specs.Prelude.{◌≡◌, ◌+◌, ◌≤◌, get_or, lengt
 ghost use Rattle.utf8.specs.Utf8.{is_one, is_tail, is_two, is_three, is_four, char_len, all, readable};
 ghost use Rattle.utf8.specs.Edge.{is_edge, has_slice};
 
+use scan::ByteTest;
+
 // The grammar of RFC 3629, section 4, a line for each alternative.
 fn is_tail(b: u8) -> bool
     ensures { result ≡ is_tail b }
@@ -65,17 +67,16 @@ pub fn char_len(s: &[u8]) -> usize
     if is_four(a, b, c, d) { 4 } else { 0 }
 }
 
-// Whether all bytes are ASCII. There is no branch: the compiler makes vector comparisons of it.
-#[inline(always)]
-#[tactic(auto, using(crate::proofs::ReadableLaws::seen_laws))]
-fn all_ascii(s: &[u8]) -> bool
-    ensures { result ≡ all is_one s.now }
-{
-    let mut ascii = true;
-    for b in s {
-        ascii &= *b <= 0x7F;
+struct Ascii;
+
+impl ByteTest for Ascii {
+    ghost use Rattle.utf8.specs.Utf8.{is_one};
+
+    ghost passing = { is_one };
+
+    fn passes(b: u8) -> bool {
+        b <= 0x7F
     }
-    ascii
 }
 
 // Is it ASCII? With 64 bytes at a time. Of the last 64 some may have been seen already: that is
@@ -86,18 +87,15 @@ pub fn is_ascii(s: &[u8]) -> bool
 {
     let n = s.len();
     if n < 64 {
-        return all_ascii(s);
+        return scan::all_pass::<Ascii>(s);
     }
     let last = n - 64;
-    let mut i = 0;
-    // Stays a while: 64 bytes at a time up to the last 64, which overlap them: no chunks do.
-    while i < last {
-        if !all_ascii(&s[i..i + 64]) {
+    for i in (0..last).step_by(64) {
+        if !scan::all_pass::<Ascii>(&s[i..i + 64]) {
             return false;
         }
-        i += 64;
     }
-    all_ascii(&s[last..])
+    scan::all_pass::<Ascii>(&s[last..])
 }
 
 // Is it UTF-8? Character by character.

@@ -1,4 +1,5 @@
-// Eight bytes of a text as one word of 64 bits, the lowest byte first, so that they can be looked at at once.
+// Eight bytes of a text as one word of 64 bits, the lowest byte first, so that they can be looked
+// at at once.
 #![tactic(auto)]
 
 ghost use Rattle.std.specs.Prelude.{◌≡◌, ◌+◌, ◌≤◌, length, take, drop};

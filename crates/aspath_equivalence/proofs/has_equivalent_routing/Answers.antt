@@ -1,35 +1,5 @@
-use Rattle.std.proofs.Common.{sym}
-use Rattle.std.proofs.lemmas.Result.{err_from_is_err_and}
-use Rattle.aspath_equivalence.proofs.Routing.{ensured, first_spoilt, second_spoilt, kept_first, kept_second, left_as_it_was, refused_none, both_left, counted, parts_left, answered}
+use Rattle.aspath_equivalence.proofs.Routing.{ensured, refused_none, both_left, counted, parts_left, answered}
 use Rattle.aspath_equivalence.proofs.has_equivalent_routing.Goals as goal
-
-pub returns-in_err-check : goal.returns-in_err-check
-returns-in_err-check c =
-    let n = sym c.in_err-check.ensures in
-    let p = err_from_is_err_and c.from_residual.result c.from_residual.ensures.1 in
-    record {
-      value = rw (p.1, p.2) (second_spoilt _ _ n);
-      kinds = kept_second _ _ n _ _ _;
-      lengths = kept_second _ _ n _ _ _;
-      numbers = kept_second _ _ n _ _ _;
-      kinds2 = kept_first _ _ n _ _ _;
-      lengths2 = kept_first _ _ n _ _ _;
-      numbers2 = kept_first _ _ n _ _ _;
-    }
-
-pub returns-in_err-first : goal.returns-in_err-first
-returns-in_err-first c =
-    let n = refused_none _ _ c.in_err-first.ensures.value in
-    let p = err_from_is_err_and c.from_residual-in_err-first.result c.from_residual-in_err-first.ensures.1 in
-    record {
-      value = rw (p.1, p.2) (first_spoilt _ _ n);
-      kinds = left_as_it_was _ _ n _ _ _ _ c.in_err-first.ensures.kinds;
-      lengths = left_as_it_was _ _ n _ _ _ _ c.in_err-first.ensures.lengths;
-      numbers = left_as_it_was _ _ n _ _ _ _ c.in_err-first.ensures.numbers;
-      kinds2 = kept_second _ _ n _ _ _;
-      lengths2 = kept_second _ _ n _ _ _;
-      numbers2 = kept_second _ _ n _ _ _;
-    }
 
 -- the second record was tested
 pub returns-in_err-second : goal.returns-in_err-second

@@ -1,11 +1,9 @@
 -- `codec::float_of` meets its contract. Assumes nothing.
+use Rattle.std.proofs.Common.{◌∙◌}
 use lib.Ieee.{div, of_bits}
-use Rattle.seconds.proofs.Bits.{bits_nan, of_number}
+use Rattle.seconds.proofs.Bits.{float_or_nan}
 use Rattle.codec.proofs.float_of.Goals as goal
 
-pub returns-then-bits-gt9218868437227405312 : goal.returns-then-bits-gt9218868437227405312
+pub returns : goal.returns
 unfolding div of_bits
-returns-then-bits-gt9218868437227405312 c = bits_nan _ c.if-bits-gt9218868437227405312.true
-
-pub float_from_bits-result : goal.float_from_bits-result
-float_from_bits-result c = of_number _ c.if-bits-gt9218868437227405312.false
+returns c = c.unwrap_or.ensures ∙ float_or_nan _ _ c.float_of_bits.ensures

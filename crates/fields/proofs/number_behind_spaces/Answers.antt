@@ -1,5 +1,5 @@
 use Rattle.fields.proofs.BlankLaws.{number_here}
 use Rattle.fields.proofs.number_behind_spaces.Goals as goal
 
-pub returns-in-Some : goal.returns-in-Some
-returns-in-Some c = number_here _ _ c.first_ink.ensures _ c.in-Some.is _ c.number_in.ensures
+pub returns : goal.returns
+returns c = number_here _ _ c.first_ink.ensures _ c.in_ok-i.was _ c.number_in.ensures

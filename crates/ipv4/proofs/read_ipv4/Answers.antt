@@ -7,10 +7,10 @@ overflow_mul-a c = room c.loop-k.a c.loop-k._k c.loop-k.invariant.1 (omega arith
 
 pub overflow_add-a : goal.overflow_add-a
 overflow_add-a c =
-    room_for c.loop-k.a c.loop-k._k c.loop-k.invariant.1 (omega arith) c.in-Some.v
-    (value_small _ _ _ _ c.loop-k.invariant.2 _ c.octet.ensures _ _ c.in-Some.is)
+    room_for c.loop-k.a c.loop-k._k c.loop-k.invariant.1 (omega arith) c.in_ok-v.v
+    (value_small _ _ _ _ c.loop-k.invariant.2 _ c.octet.ensures _ _ c.in_ok-v.was)
 
 pub loop-k-preserved : goal.loop-k-preserved
 loop-k-preserved c =
-    let small : c.in-Some.v < 256 = value_small _ _ _ _ c.loop-k.invariant.2 _ c.octet.ensures _ _ c.in-Some.is in
-    (omega arith, octets_grow c.loop-k.a c.loop-k._k c.loop-k.invariant.1 (omega arith) c.in-Some.v small, next _ _ _ _ c.loop-k.invariant.2 _ c.octet.ensures _ _ c.in-Some.is (omega arith))
+    let small : c.in_ok-v.v < 256 = value_small _ _ _ _ c.loop-k.invariant.2 _ c.octet.ensures _ _ c.in_ok-v.was in
+    (omega arith, octets_grow c.loop-k.a c.loop-k._k c.loop-k.invariant.1 (omega arith) c.in_ok-v.v small, next _ _ _ _ c.loop-k.invariant.2 _ c.octet.ensures _ _ c.in_ok-v.was (omega arith))

@@ -1,9 +1,7 @@
-use Rattle.std.proofs.Common.{arith}
 use Rattle.ipv6.proofs.Sides.{fill_more, fill_n}
 use Rattle.ipv6.proofs.fill.Goals as goal
 
 pub loop-n-preserved : goal.loop-n-preserved
-loop-n-preserved c = (
-  fill_n _ _ _ _ c.loop-n.invariant.0 c.loop-n.invariant.1 _ c.push-r.ensures,
-  fill_more _ _ _ _ c.loop-n.invariant.0 c.loop-n.invariant.1 (omega arith) _ c.push-r.ensures,
-)
+loop-n-preserved c =
+    let k = c.loop-n in
+    (fill_n _ _ _ _ k.invariant.0 k.invariant.1 c.loop-n-test.true _ c.push.ensures _ c.in_ok-r.was, fill_more _ _ _ _ k.invariant.0 k.invariant.1 c.loop-n-test.true _ c.push.ensures _ c.in_ok-r.was)

@@ -1,7 +1,10 @@
-use borrow.Author.Rules.{rules}
-use Rattle.ipv6.proofs.Sides.{push_le, side_next}
+use Rattle.std.proofs.Common.{rules, arith}
+use Rattle.ipv6.proofs.Sides.{side_next, side_last}
 use Rattle.ipv6.proofs.side.Goals as goal
 
 pub loop-e-preserved : goal.loop-e-preserved
 loop-e-preserved c =
-    (search rules, search push_le, search rules, side_next _ _ _ _ _ c.loop-e.invariant.3 _ c.loop-e.invariant.2 c.loop-e-test.true _ c.group.ensures c.in_ok-g.g c.in_ok-g.was _ c.push-r.ensures)
+    (search rules, search rules, side_next _ _ _ _ _ c.loop-e.invariant.2 _ c.loop-e.invariant.1 c.loop-e-test.true _ c.group.ensures _ c.in_ok-g.was _ c.push.ensures _ c.in_ok-r.was)
+
+pub returns : goal.returns
+returns c = side_last _ _ _ _ _ c.loop-e.invariant.2 _ c.loop-e.invariant.1 (omega arith) _ c.last_part.ensures

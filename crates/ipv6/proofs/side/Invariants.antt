@@ -8,7 +8,7 @@ use Rattle.ipv6.proofs.side.Given as goal
 
 abbrev pub invariant-loop-e : goal.invariant-loop-e
 invariant-loop-e l =
-    (length l.t ≤ length l.s) × (l.r.n ≤ 8) × (l.e ≡ length (before 58 l.t)) × (side_from l.initial.r (side l.dotted l.s) ≡ side_from l.r (groups l.dotted (parts 58 l.t)))
+    (length l.t ≤ length l.s) × (l.e ≡ length (before 58 l.t)) × (side_from l.initial.r (side l.dotted l.s) ≡ side_from l.r (groups l.dotted (parts 58 l.t)))
 
 abbrev pub decreases-loop-e : goal.decreases-loop-e
 decreases-loop-e l = length l.t

@@ -1,10 +1,7 @@
-use Rattle.std.proofs.Common.{rules, refl}
-use Rattle.output.proofs.Output.{too_short, kept}
-use Rattle.output.proofs.Writing.{put}
+use Rattle.std.proofs.Common.{refl}
+use Rattle.output.proofs.Writing.{holds}
+use Rattle.network_display.proofs.Writing.{address_le}
 use Rattle.network_display.proofs.put_address.Goals as goal
 
-pub returns-then-out-address_len : goal.returns-then-out-address_len
-returns-then-out-address_len c = search (too_short, kept)
-
 pub returns : goal.returns
-returns c = put c.address_len.ensures.0 c.if-out-address_len.false c.write_address.ensures refl (search rules)
+returns c = rw (holds c.write_address.ensures refl (address_le c.args.a) c.text.ensures) at c.put.ensures

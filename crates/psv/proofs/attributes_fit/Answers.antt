@@ -2,12 +2,10 @@ use native.Mathlib.Omega.{arith}
 use mathlib.Core.Path.{refl, sym}
 use lib.ListN.{length}
 use Prim.Native.Nat.{◌≤◌}
-use borrow.Author.Rules.{rules}
 use borrow.Author.Tests.{le-leb}
-use Rattle.output.proofs.Writing.{place}
+use Rattle.output.proofs.Writing.{holds}
 use Rattle.psv.specs.Line.{attributes_text}
 use Rattle.psv.proofs.Longest.{attributes_le}
-use Rattle.psv.proofs.Printing.{inside}
 use Rattle.psv.proofs.attributes_fit.Goals as goal
 
 pub returns-then-surely : goal.returns-then-surely
@@ -15,7 +13,4 @@ returns-then-surely c =
     let h : length (attributes_text c.args.e) ≤ 108 = search attributes_le in sym (le-leb _ _ (omega arith))
 
 pub returns : goal.returns
-returns c = let h : length (attributes_text c.args.e) ≤ 108 = search attributes_le in rw (place c.write_attributes.ensures refl h)
-
-pub overflow_add-result : goal.overflow_add-result
-overflow_add-result c = let h = inside c.write_attributes.ensures (omega arith) in search rules
+returns c = let h : length (attributes_text c.args.e) ≤ 108 = search attributes_le in rw (holds c.write_attributes.ensures refl h c.text.ensures)

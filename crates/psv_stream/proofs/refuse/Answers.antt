@@ -5,4 +5,4 @@ use Rattle.psv_stream.proofs.refuse.Goals as goal
 pub returns : goal.returns
 returns c =
     rw (← c.number.ensures)
-    (refuses _ _ refl c.requires (search rules) c.ranges.line c.bytes.ensures c.write_u64.ensures c.bytes-2.ensures c.write_u64-2.ensures c.byte.ensures (search rules))
+    (refuses _ _ refl (search rules) (search rules) c.ranges.line c.bytes.ensures c.write_u64.ensures c.bytes-2.ensures c.write_u64-2.ensures c.byte.ensures (search rules))

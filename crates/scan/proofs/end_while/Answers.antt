@@ -1,15 +1,16 @@
--- The byte at i goes on with the scan or ends it, by what the closure answers.
-use Rattle.std.proofs.Common.{sym, ◌∙◌}
-use Rattle.scan.proofs.ListLaws.{scan_stop, scan_on, scan_out}
+-- The scan ends at the first byte that the closure does not pass.
+use Rattle.std.proofs.Common.{not, rules, sym, ◌≡◌, ◌+◌, ap, ◌∙◌, take, drop, length, ◌-◌}
+use Rattle.std.specs.List.{position}
+use Rattle.std.proofs.lemmas.Iterator.{YieldsList-from_slice}
+use Rattle.std.proofs.lemmas.Iterator.Search.{position_from_yields_List}
+use borrow.Author.Tests.{tests}
+use Rattle.scan.proofs.ListLaws.{end_while_past, end_while_position}
 use Rattle.scan.proofs.end_while.Goals as goal
 
-pub returns-then-not-passes : goal.returns-then-not-passes
-returns-then-not-passes g c =
-    λ p h. scan_stop p _ _ _ (c.loop-i.invariant p h) 0 c.loop-i-test.true (sym (h _ _ c.passes.ensures) ∙ c.if-not-passes.true)
-
-pub loop-i-preserved : goal.loop-i-preserved
-loop-i-preserved g c =
-    λ p h. scan_on p _ _ _ (c.loop-i.invariant p h) 0 c.loop-i-test.true (sym (h _ _ c.passes.ensures) ∙ c.if-not-passes.false)
+pub returns-then-s-at : goal.returns-then-s-at
+returns-then-s-at g c = λ p h. sym (end_while_past p _ _ c.if-s-at.true)
 
 pub returns : goal.returns
-returns g c = λ p h. c.max.ensures ∙ scan_out p _ _ _ (c.loop-i.invariant p h) c.loop-i-test.false c.loop-i.auto.i-end
+returns g c = λ p h.
+    let e : c.position.result ≡ position (λ b. not (p b)) (take (length c.args.s.now - c.args.at) (drop c.args.at c.args.s.now)) = position_from_yields_List (λ b. not (p b)) _ _ _ c.position.ensures.ran (YieldsList-from_slice (take (length c.args.s.now - c.args.at) (drop c.args.at c.args.s.now)) cc) (λ x b q k. search (rules, tests, h)) in
+    ap (λ n. c.args.at + n) c.unwrap_or.ensures ∙ end_while_position p _ _ c.if-s-at.false _ e

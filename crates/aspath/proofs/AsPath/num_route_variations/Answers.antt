@@ -1,7 +1,8 @@
 use native.Mathlib.Nat.{one-mul}
-use Rattle.std.proofs.Common.{sym, arith, lit<}
+use Rattle.std.proofs.Common.{◌≡◌, ◌∙◌, sym, arith, lit<, rules, Err}
 use Rattle.aspath.specs.Queries.{variations}
 use Rattle.aspath.specs.Segments.{segments_in}
+use Rattle.aspath.specs.declared.VariationsError.TheVariants.{TooMany}
 use Rattle.aspath.proofs.Queries.{no_variation, some_variation, variations_more, variations_over, variations_done}
 use Rattle.aspath.proofs.AsPath.num_route_variations.Goals as goal
 
@@ -14,11 +15,13 @@ loop-segment-init c =
 
 pub loop-segment-preserved : goal.loop-segment-preserved
 loop-segment-preserved c =
-    let checked = c.in-Some-checked_mul.ensures in
-    (c.loop-segment.invariant.0, omega (arith, checked.0), variations_more _ _ _ _ _ _ c.loop-segment.invariant.2 c.in-Some.ensures.steps c.choices.ensures _ checked.1)
+    let more = rw c.in_ok-product.ensures.ok_part at c.checked_mul.ensures in
+    (c.loop-segment.invariant.0, omega (arith, more.0), variations_more _ _ _ _ _ _ c.loop-segment.invariant.2 c.in-Some.ensures.steps c.choices.ensures _ more.1)
 
 pub returns : goal.returns
 returns c = variations_done _ _ _ c.loop-segment.invariant.2 c.in-None.ensures.steps.0 c.loop-segment.invariant.1
 
-pub returns-in_default : goal.returns-in_default
-returns-in_default c = variations_over _ _ _ _ _ _ c.loop-segment.invariant.2 c.in-Some.ensures.steps c.choices.ensures c.in_default.ensures c.loop-segment.invariant.0
+pub returns-in_err-product : goal.returns-in_err-product
+returns-in_err-product c =
+    let refused : c.from_residual.result ≡ Err TooMany = search rules in
+    refused ∙ variations_over _ _ _ _ _ _ c.loop-segment.invariant.2 c.in-Some.ensures.steps c.choices.ensures (rw c.in_err-product.ensures.ok_part at c.checked_mul.ensures) c.loop-segment.invariant.0

@@ -1,5 +1,0 @@
-use Rattle.output.proofs.Writing.{then}
-use Rattle.aspath_display.proofs.write_number.Goals as goal
-
-pub returns : goal.returns
-returns c = search then

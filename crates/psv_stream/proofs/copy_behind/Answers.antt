@@ -1,5 +1,0 @@
-use Rattle.psv_stream.proofs.Routes.{copied}
-use Rattle.psv_stream.proofs.copy_behind.Goals as goal
-
-pub returns : goal.returns
-returns c = search copied

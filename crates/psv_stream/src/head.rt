@@ -1,0 +1,188 @@
+// The head of the input: the path line and the lines scanned for the column header.
+ghost use Rattle.std.specs.Prelude.{◌≡◌, true, ◌++◌};
+ghost use Rattle.psv.specs.Line.{header_text};
+ghost use Rattle.timestamp.specs.Dates.{infer_timestamp};
+ghost use Rattle.text_dump.specs.Open.{open_of};
+ghost use Rattle.psv_stream.specs.Printed.{feed, dated, scanned};
+ghost use Rattle.psv_stream.specs.Refusal.{number};
+ghost use Rattle.psv_stream.specs.Run.{header_bytes};
+ghost use Rattle.psv_stream.specs.Parts.{acts, is_head, Puts, Ends, TooLong, Does, Steps, IfRoom, Heads};
+
+use crate::{LINE, Phase, Ran, Refusal, Step, refuse};
+use input::Front;
+use output::Writer;
+use text_dump::{OpenError, State};
+use timestamp::InferError;
+
+// What is printed at the input's end.
+#[tactic(auto, using(crate::proofs::Lines::end_laws))]
+fn end(phase: Phase, out: &mut [u8; LINE]) -> usize
+    ensures { Ends phase out.old out.new result }
+{
+    match phase {
+        Phase::Path => refuse(Refusal::NoColumns, 0, out),
+        Phase::Header(_, _, _) => refuse(Refusal::NoColumns, 0, out),
+        Phase::Body(_, _) => 0,
+        Phase::Stopped => 0,
+    }
+}
+
+#[tactic(auto, using(crate::proofs::Lines::long_laws))]
+fn too_long(phase: Phase, out: &mut [u8; LINE]) -> usize
+    ensures { TooLong phase out.old out.new result }
+{
+    match phase {
+        Phase::Path => refuse(Refusal::LineTooLong, 0, out),
+        Phase::Header(_, n, _) => refuse(Refusal::LineTooLong, n.wrapping_add(1), out),
+        Phase::Body(_, n) => refuse(Refusal::LineTooLong, n.wrapping_add(1), out),
+        Phase::Stopped => 0,
+    }
+}
+
+fn path_line(line: &[u8], out: &mut [u8; LINE]) -> Step<Phase>
+    ensures { Does (dated (infer_timestamp line.now)) line.now out.old out.new result }
+{
+    match timestamp::infer_timestamp_from_path(line) {
+        Ok(date) => Step::Took(line.len(), 0, Phase::Header(date.unwrap_or(0.0), 0, 0)),
+        Err(InferError::NotUtf8) => Step::Stops(refuse(Refusal::PathNotUtf8, 0, out)),
+    }
+}
+
+fn put_header(out: &mut [u8; LINE]) -> usize
+    ensures { Puts (header_text ++ feed) out.old out.new result }
+{
+    let at = psv::get_psv_header(out).unwrap_or(0);
+    let mut w = Writer { out, at };
+    w.byte(b'\n');
+    w.at
+}
+
+// Tries to open the listing by its first lines, as many as `number` says.
+fn header_line(t: f64, number: u64, lines: &[u8], out: &mut [u8; LINE]) -> Step<Phase>
+    ensures { Does (scanned t number lines.now (open_of t lines.now)) lines.now out.old out.new result }
+{
+    match State::open(lines, t) {
+        Ok(state) => Step::Took(lines.len(), put_header(out), Phase::Body(state, number)),
+        Err(OpenError::Unreadable(line)) => Step::Stops(refuse(
+            Refusal::UnreadableHeader,
+            line as u64,
+            out,
+        )),
+        Err(OpenError::NoTimestamp) => Step::Stops(refuse(Refusal::NoTimestamp, 0, out)),
+        Err(OpenError::NoColumns) => {
+            let more = number < 64;
+            if more {
+                return Step::Took(0, 0, Phase::Header(t, number, lines.len()));
+            }
+            Step::Stops(refuse(Refusal::NoColumns, 0, out))
+        }
+    }
+}
+
+// Is the next line taken by the loop over the head? It is until the table is open; under a spoilt
+// state too, where a line is only refused.
+#[tactic(auto, using(crate::proofs::Lines::head_body))]
+pub(crate) fn is_head(phase: Phase) -> bool
+    ensures { result ≡ is_head phase }
+{
+    match phase {
+        Phase::Path => true,
+        Phase::Header(_, _, _) => true,
+        Phase::Body(state, _) => state.turn().is_spoilt(0),
+        Phase::Stopped => false,
+    }
+}
+
+// A line that is not too long; of a header line, the text with all before it.
+#[tactic(auto, using(crate::proofs::Lines::on_laws))]
+fn on_line(phase: Phase, text: &[u8], out: &mut [u8; LINE]) -> Step<Phase>
+    requires { is_head phase ≡ true }
+    ensures { Does (acts phase text.now) text.now out.old out.new result }
+{
+    match phase {
+        Phase::Path => path_line(text, out),
+        Phase::Header(t, n, _) => {
+            let number = n.wrapping_add(1);
+            header_line(t, number, text, out)
+        }
+        Phase::Body(_, n) => Step::Stops(refuse(Refusal::SpoiltState, n.wrapping_add(1), out)),
+        Phase::Stopped => Step::Stops(0),
+    }
+}
+
+// How many of the bytes at hand are of header lines that have come.
+fn header_bytes(phase: Phase) -> usize
+    ensures { result ≡ header_bytes phase }
+{
+    match phase {
+        Phase::Path => 0,
+        Phase::Header(_, _, size) => size,
+        Phase::Body(_, _) => 0,
+        Phase::Stopped => 0,
+    }
+}
+
+#[tactic(auto, using(crate::proofs::Steps::line_laws))]
+fn take_line(phase: Phase, input: &[u8], ended: bool, out: &mut [u8; LINE]) -> Step<Phase>
+    requires { is_head phase ≡ true }
+    ensures { Steps phase input.now ended out.old out.new result }
+{
+    match input::line_at(input, header_bytes(phase), ended) {
+        Front::Starved => Step::Starved,
+        Front::Nothing => Step::Stops(end(phase, out)),
+        Front::TooLong => Step::Stops(too_long(phase, out)),
+        Front::Line(end) => on_line(phase, &input[..end], out),
+    }
+}
+
+// Takes the next line of the head, if there is room for what it may print.
+#[inline(always)]
+fn next_line(phase: Phase, input: &[u8], ended: bool, out: &mut [u8]) -> Option<Step<Phase>>
+    requires { is_head phase ≡ true }
+    ensures { IfRoom (Steps phase input.now ended) out.old out.new result }
+{
+    let room = out.first_chunk_mut::<LINE>()?;
+    Some(take_line(phase, input, ended, room))
+}
+
+// Takes lines of the head as long as there is a whole one, and room for what it may print.
+#[tactic(auto, using(crate::proofs::Runs::head_laws))]
+pub(crate) fn take_head(phase: Phase, input: &[u8], ended: bool, out: &mut [u8]) -> Ran
+    ensures { Heads phase input.now ended out.old result out.new }
+{
+    let mut ran = Ran {
+        phase,
+        consumed: 0,
+        written: 0,
+        starved: false,
+    };
+    // Stays a while: the head ends at the line that opens the table, which no iterator over the
+    // input says.
+    while is_head(ran.phase) {
+        let rest = &mut out[ran.written..];
+        let Some(step) = next_line(ran.phase, &input[ran.consumed..], ended, rest) else {
+            return ran;
+        };
+        match step {
+            Step::Starved => {
+                return Ran {
+                    starved: true,
+                    ..ran
+                };
+            }
+            Step::Stops(n) => {
+                return Ran {
+                    phase: Phase::Stopped,
+                    written: ran.written + n,
+                    ..ran
+                };
+            }
+            Step::Took(bytes, n, next) => {
+                ran.phase = next;
+                ran.consumed += bytes;
+                ran.written += n;
+            }
+        }
+    }
+    ran
+}
