@@ -23,7 +23,7 @@ fn put_text<F: FnOnce(&mut Writer)>(write: F, out: &mut Answer) -> io::Result<()
         at: 0,
     };
     write(&mut w);
-    out.write_all(cases::text_of(w))
+    out.write_all(w.text())
 }
 
 // The address that s says, printed.
