@@ -14,7 +14,6 @@ ghost use Rattle.std.specs.Io.{ReadsAtMost};
 ghost use Rattle.scan.specs.Search.{equal};
 ghost use Rattle.cases.specs.Cases.{part_of, shown_or, float_of, answer_of, counted};
 
-use output::Writer;
 use std::fs::File;
 use std::io::{Cursor, Read, Write};
 use std::rt::Files;
@@ -27,6 +26,8 @@ pub const LIST: usize = 2097152;
 const ANSWER: usize = 65536;
 
 // Room for a list of cases.
+// Stays a function: with the array written in `run`, its proof needs more stack than the checker
+// has.
 pub fn list_buffer() -> [u8; LIST]
     ensures { LIST ≡ length result }
 {
@@ -98,12 +99,12 @@ pub fn float(bits: u64) -> Option<f64>
 }
 
 // Whether the case's answer is `got`.
-#[tactic(auto, using(crate::proofs::CaseLaws::answer_there, crate::proofs::CaseLaws::answer_none))]
+#[tactic(auto, using(scan::proofs::SearchLaws::equal_slices, crate::proofs::CaseLaws::answer_there, crate::proofs::CaseLaws::answer_none))]
 pub fn agrees(line: &[u8], got: &[u8]) -> bool
     ensures { result ≡ equal (answer_of line.now) got.now }
 {
     match tab_at(line) {
-        Some(tab) => scan::same(&line[tab + 1..], got),
+        Some(tab) => &line[tab + 1..] == got,
         None => got.is_empty(),
     }
 }
@@ -125,14 +126,6 @@ pub fn hex<'a>(s: &[u8], out: &'a mut [u8]) -> &'a [u8] {
         *place = value(*high) * 16 + value(*low);
     }
     first(out, pairs.len())
-}
-
-// The text that a writer has written.
-pub fn text_of<'a>(w: Writer<'a>) -> &'a [u8]
-    ensures { result.now ≡ part_of w.entry.out.now 0 w.entry.at }
-{
-    let Writer { out, at } = w;
-    part(out, 0, at)
 }
 
 // The text that a call wrote at the beginning of the bytes, or another where it refused.
@@ -292,10 +285,8 @@ pub fn run<R: Files + Print, P: Program>(rt: &R, file: &str, program: &P) -> io:
     let mut out = [0; ANSWER];
     let mut name: &[u8] = &[];
     let mut t = Tally::default();
-    for case in list[..n].split(|b| *b == b'\n') {
-        if !is_case(case) {
-            continue;
-        }
+    let lines = list[..n].split(|b| *b == b'\n');
+    for case in lines.filter(|line| is_case(line)) {
         if field(case, 0) != name {
             report(rt, t, name)?;
             name = field(case, 0);

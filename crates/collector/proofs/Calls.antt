@@ -20,12 +20,10 @@ use Rattle.plain_reader.specs.Calls.{refused}
 use Rattle.text_dump.specs.State.{cursor, moved, valid_remembered, spoilt}
 use Rattle.text_dump.specs.Open.{open_of}
 use Rattle.text_dump.specs.Open as Open
-use Rattle.text_dump.specs.Next.{Step, next, told, lent, Answers}
+use Rattle.text_dump.specs.Next.{Step, next, number, told, lent, Answers}
 use Rattle.text_dump.specs.declared.State.{State}
 use Rattle.text_dump.specs.declared.OpenError.{OpenError}
-use Rattle.text_dump.specs.declared.OpenError.TheVariants.{NoColumns, NoTimestamp, Unreadable as UnreadableHeader}
 use Rattle.text_dump.specs.declared.NextError.{NextError}
-use Rattle.text_dump.specs.declared.NextError.TheVariants.{Spoilt, TooFewPlaces, Unreadable}
 use Rattle.text_dump.proofs.NextLaws.{next_moved}
 use Rattle.little.specs.Little.{bytes_of, words_in}
 use Rattle.codec.specs.Words.{cursor_words}
@@ -49,14 +47,8 @@ module _ (t : List ℕ) (time : Float) (s : List ℕ) where
     pub open_table : (σ : State) (new : List ℕ) → r ≡ Ok σ → new ≡ front (state_bytes σ) s → (0, new) ≡ open_left t time s
     open_table σ new e f = rw f (sym (ap (λ (o : Result State OpenError). opens_in s (Open.told o)) e) ∙ past_open)
 
-    pub open_no_timestamp : r ≡ (Err NoTimestamp) → (4, s) ≡ open_left t time s
-    open_no_timestamp e = sym (ap (λ (o : Result State OpenError). opens_in s (Open.told o)) e) ∙ past_open
-
-    pub open_unreadable : (n : ℕ) → r ≡ Err (UnreadableHeader n) → (1, s) ≡ open_left t time s
-    open_unreadable n e = sym (ap (λ (o : Result State OpenError). opens_in s (Open.told o)) e) ∙ past_open
-
-    pub open_no_columns : r ≡ (Err NoColumns) → (2, s) ≡ open_left t time s
-    open_no_columns e = sym (ap (λ (o : Result State OpenError). opens_in s (Open.told o)) e) ∙ past_open
+    pub open_refused : (error : OpenError) (n : ℕ) → r ≡ Err error → n ≡ Open.number error → (n, s) ≡ open_left t time s
+    open_refused error n e f = rw f (sym (ap (λ (o : Result State OpenError). opens_in s (Open.told o)) e) ∙ past_open)
 
 -- fernweeks_turn
 module _ (s : List ℕ) where
@@ -179,11 +171,5 @@ module _ (s part a e : List ℕ) where
               ∙ ap (λ (l : List ℕ). left 255 (front (state_bytes x.0) s) l e) (kept (Ok None) h)
               ∙ tells_next (Ok None) h
 
-        pub next_spoilt : (z : NextError) → x.1 ≡ Err z → z ≡ Spoilt → left 5 s new e ≡ next_left s part a e
-        next_spoilt z g h = refuses_next (Err Spoilt) (g ∙ ap Err h) 5 refl
-
-        pub next_unreadable : (z : NextError) → x.1 ≡ Err z → z ≡ Unreadable → left 6 s new e ≡ next_left s part a e
-        next_unreadable z g h = refuses_next (Err Unreadable) (g ∙ ap Err h) 6 refl
-
-        pub next_too_few : (z : NextError) → x.1 ≡ Err z → z ≡ TooFewPlaces → left 7 s new e ≡ next_left s part a e
-        next_too_few z g h = refuses_next (Err TooFewPlaces) (g ∙ ap Err h) 7 refl
+        pub next_refused : (z : NextError) (n : ℕ) → x.1 ≡ Err z → n ≡ number z → left n s new e ≡ next_left s part a e
+        next_refused z n g h = rw h (refuses_next (Err z) g (number z) refl)

@@ -14,7 +14,7 @@ ghost use Rattle.collector.specs.Bytes.{state_bytes, element_bytes, state_in};
 ghost use Rattle.collector.specs.Exports.{line_at_fault, open_left, turn_left, left, next_left};
 
 use elem::Element;
-use text_dump::{NextError, OpenError, State};
+use text_dump::State;
 use text_dump_header::HeaderError;
 
 const STATE_LEN: usize = 128;
@@ -88,7 +88,7 @@ pub fn fernweeks_line_at_fault(text: &[u8]) -> u64
     }
 }
 
-#[tactic(auto, using(crate::proofs::Calls::open_short, crate::proofs::Calls::open_no_timestamp, crate::proofs::Calls::open_no_columns))]
+#[tactic(auto, using(crate::proofs::Calls::open_short, crate::proofs::Calls::open_refused))]
 pub fn fernweeks_open(text: &[u8], timestamp: f64, state: &mut [u8]) -> u32
     ensures { (result, state.new) ≡ open_left text.now timestamp state.old }
 {
@@ -100,9 +100,7 @@ pub fn fernweeks_open(text: &[u8], timestamp: f64, state: &mut [u8]) -> u32
             put_state(s, state);
             0
         }
-        Err(OpenError::NoTimestamp) => 4,
-        Err(OpenError::Unreadable(_)) => 1,
-        Err(OpenError::NoColumns) => 2,
+        Err(error) => error.number(),
     }
 }
 
@@ -127,9 +125,7 @@ pub fn fernweeks_next(state: &mut [u8], part: &[u8], asns: &mut [u32], element: 
             put_cursor(after, state);
             255
         }
-        Err(NextError::Spoilt) => 5,
-        Err(NextError::Unreadable) => 6,
-        Err(NextError::TooFewPlaces) => 7,
+        Err(refusal) => refusal.number(),
     }
 }
 

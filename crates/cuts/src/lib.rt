@@ -3,7 +3,7 @@
 #![tactic(auto)]
 
 use cases::Marked;
-use std::io;
+use std::fmt;
 
 // The most parts, with one place more.
 const PLACES: usize = 10;
@@ -17,16 +17,26 @@ pub struct Cut {
     pub header: usize,
 }
 
-// Where the body begins in the i-th part: in the first behind the header.
-pub fn body_at(cut: Cut, i: usize) -> usize {
-    if i == 0 { cut.header } else { 0 }
+impl Cut {
+    // Where the body begins in the i-th part: in the first after the header.
+    pub fn body_at(self, i: usize) -> usize {
+        if i == 0 { self.header } else { 0 }
+    }
+
+    // The i-th part; no bytes where there is none.
+    pub fn part(self, text: &[u8], i: usize) -> &[u8] {
+        match self.places.get(i..) {
+            Some([from, to, ..]) => cases::part(text, *from, *to),
+            _ => &[],
+        }
+    }
 }
 
-// The i-th part; no bytes where there is none.
-pub fn part(text: &[u8], cut: Cut, i: usize) -> &[u8] {
-    match cut.places.get(i..) {
-        Some([from, to, ..]) => cases::part(text, *from, *to),
-        _ => &[],
+// Where the parts but the first begin.
+impl fmt::Display for Cut {
+    fn fmt<W: fmt::Write>(&self, f: &mut fmt::Formatter<W>) -> fmt::Result {
+        let places = self.places.get(1..self.parts).unwrap_or(&[]);
+        write!(f, "{}", Marked(" ", places))
     }
 }
 
@@ -48,19 +58,16 @@ pub fn drawn(x: u64) -> u64 {
     x % MODULUS * 48271 % MODULUS
 }
 
-// A place up to a quarter of the text further on, or the line end behind it.
-fn further(text: &[u8], at: usize, x: u64, line_end: bool) -> usize {
+// A place up to a quarter of the text further on.
+fn further(text: &[u8], at: usize, x: u64) -> usize {
     let steps = x % (text.len() as u64 / 4 + 1);
-    let to = at.wrapping_add(steps as usize).min(text.len());
-    if line_end {
-        scan::line_end(text, to)
-    } else {
-        to
-    }
+    at.wrapping_add(steps as usize).min(text.len())
 }
 
-// Two to eight parts, cut behind the header at any places, or at line ends only. Parts may be
+// Two to eight parts, cut after the header at any places, or at line ends only. Parts may be
 // empty.
+// Stays a bool: a public function asks nothing of its callers, and one that takes a closure asks
+// that it may be called.
 pub fn by_chance(text: &[u8], header: usize, seed: u64, line_ends: bool) -> Cut {
     let parts = 2 + (drawn(seed) % 7) as usize;
     let mut places = [text.len(); PLACES];
@@ -69,7 +76,10 @@ pub fn by_chance(text: &[u8], header: usize, seed: u64, line_ends: bool) -> Cut 
     let mut at = header;
     for place in &mut places[1..parts] {
         x = drawn(x);
-        at = further(text, at, x, line_ends);
+        at = further(text, at, x);
+        if line_ends {
+            at = scan::line_end(text, at);
+        }
         *place = at;
     }
     Cut {
@@ -77,10 +87,4 @@ pub fn by_chance(text: &[u8], header: usize, seed: u64, line_ends: bool) -> Cut 
         parts,
         header,
     }
-}
-
-// Where the parts but the first begin.
-pub fn print(rt: &impl Print, cut: Cut) -> io::Result<()> {
-    let places = cut.places.get(1..cut.parts).unwrap_or(&[]);
-    println!(rt; "{}", Marked(" ", places))
 }

@@ -21,7 +21,7 @@ fn put_text<F: FnOnce(&mut Writer)>(write: F, out: &mut Answer) -> io::Result<()
         at: 0,
     };
     write(&mut w);
-    out.write_all(cases::text_of(w))
+    out.write_all(w.text())
 }
 
 // The number as `decimal_display` prints it.

@@ -3,7 +3,7 @@
 #![tactic(auto)]
 
 use cases::{Answer, InHex, Or, Program};
-use network::{IpAddr, NetworkPrefix};
+use network::NetworkPrefix;
 use output::Writer;
 use std::io;
 use std::io::Write;
@@ -23,7 +23,7 @@ fn put_text<F: FnOnce(&mut Writer)>(write: F, out: &mut Answer) -> io::Result<()
         at: 0,
     };
     write(&mut w);
-    out.write_all(cases::text_of(w))
+    out.write_all(w.text())
 }
 
 // The address that s says, printed.

@@ -11,7 +11,8 @@ use network::{Asn, IpAddr, NetworkPrefix};
 use path_text::AsnsError;
 use text_dump_line::{Line, PrefixText, RouteEntry};
 
-// Stays an enum of its own: 01 tells nothing from an invalid text, so there are three cases.
+// Stays an enum of its own, beside text_dump's Remembered with the same cases: text_dump is tested
+// against the plain reader, which knows nothing of it (docs/DECISIONS.md, 19).
 #[derive(Clone, Copy)]
 pub enum Prefix {
     Nothing,

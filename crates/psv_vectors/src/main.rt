@@ -87,14 +87,6 @@ fn put_printed(r: Result<usize, ElementError>, bytes: &[u8], out: &mut Answer) -
     out.write_all(bytes)
 }
 
-fn put_header(r: Result<usize, PutError>, bytes: &[u8], out: &mut Answer) -> io::Result<()> {
-    match r {
-        Ok(n) => write!(out, "wrote {n} ")?,
-        Err(PutError::TooShort) => write!(out, "refused 9 ")?,
-    }
-    out.write_all(bytes)
-}
-
 struct PsvCases;
 
 impl Program for PsvCases {
@@ -103,8 +95,8 @@ impl Program for PsvCases {
         let call = cases::field(line, 1);
         if matches!(call, b"header") {
             let bytes = cases::first_mut(&mut room, cases::number(line, 2));
-            let r = psv::get_psv_header(bytes);
-            return put_header(r, bytes, out);
+            let r = psv::get_psv_header(bytes).map_err(|PutError::TooShort| ElementError::TooShort);
+            return put_printed(r, bytes, out);
         }
         let mut asn_bytes = [0; 4096];
         let mut numbers = [0; 1024];

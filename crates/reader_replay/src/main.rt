@@ -9,7 +9,7 @@ use columns::Columns;
 use cuts::Cut;
 use plain_calls::Prefix;
 use std::io;
-use text_dump::{NextError, OpenError, State};
+use text_dump::{OpenError, State};
 
 const TIMESTAMP: f64 = 1709251200.0;
 
@@ -31,8 +31,7 @@ const COLUMNS: Columns = Columns {
 // A call more; where it was wrong, the cut is printed.
 fn counted(rt: &impl Print, t: Tally, right: bool, part: usize, cut: Cut) -> io::Result<Tally> {
     if !right {
-        print!(rt; "in part {part}, cut at")?;
-        cuts::print(rt, cut)?;
+        println!(rt; "in part {part}, cut at{cut}")?;
     }
     replay::count(rt, t, right)
 }
@@ -59,7 +58,7 @@ fn call(stopped: bool, draw: Option<u64>) -> Option<usize> {
 // Opens the first part, and reads each part to its end, or makes the calls that are drawn from the
 // seed, where there is one.
 fn play(rt: &impl Print, t: Tally, text: &[u8], cut: Cut, seed: Option<u64>) -> io::Result<Tally> {
-    let Ok(state) = State::open(cuts::part(text, cut, 0), TIMESTAMP) else {
+    let Ok(state) = State::open(cut.part(text, 0), TIMESTAMP) else {
         return counted(rt, t, false, 0, cut);
     };
     let given = replay::given(COLUMNS, TIMESTAMP);
@@ -70,8 +69,8 @@ fn play(rt: &impl Print, t: Tally, text: &[u8], cut: Cut, seed: Option<u64>) -> 
     for _ in 0..CALLS {
         draw = draw.map(cuts::drawn);
         if let Some(k) = call(both.stopped, draw) {
-            let here = cuts::part(text, cut, part);
-            both = replay::next(rt, both, here, cuts::body_at(cut, part), k)?;
+            let here = cut.part(text, part);
+            both = replay::next(rt, both, here, cut.body_at(part), k)?;
         } else {
             let next = part.wrapping_add(1);
             if cut.parts <= next {
@@ -88,14 +87,14 @@ fn play(rt: &impl Print, t: Tally, text: &[u8], cut: Cut, seed: Option<u64>) -> 
 
 // Opens a header that ends before its column line does: 2.
 fn open_cut_header(rt: &impl Print, t: Tally, text: &[u8], cut: Cut) -> io::Result<Tally> {
-    let opened = State::open(cuts::part(text, cut, 0), TIMESTAMP);
+    let opened = State::open(cut.part(text, 0), TIMESTAMP);
     counted(rt, t, matches!(opened, Err(OpenError::NoColumns)), 0, cut)
 }
 
 // Reads the parts, with a turn at the end of any but the last, and the joined body beside them: the
 // same elements, and End.
 fn play_joined(rt: &impl Print, t: Tally, text: &[u8], cut: Cut) -> io::Result<Tally> {
-    let Ok(mut state) = State::open(cuts::part(text, cut, 0), TIMESTAMP) else {
+    let Ok(mut state) = State::open(cut.part(text, 0), TIMESTAMP) else {
         return counted(rt, t, false, 0, cut);
     };
     let Ok(mut joined) = State::open(text, TIMESTAMP) else {
@@ -105,7 +104,7 @@ fn play_joined(rt: &impl Print, t: Tally, text: &[u8], cut: Cut) -> io::Result<T
     let mut part = 0usize;
     for _ in 0..CALLS {
         let mut asns = replay::places();
-        let got = state.next(cuts::part(text, cut, part), &mut asns);
+        let got = state.next(cut.part(text, part), &mut asns);
         state = replay::state_in(got);
         let next = part.wrapping_add(1);
         if matches!(got, (_, Ok(None))) && next < cut.parts {
@@ -113,10 +112,10 @@ fn play_joined(rt: &impl Print, t: Tally, text: &[u8], cut: Cut) -> io::Result<T
             part = next;
             continue;
         }
-        let mut places = replay::places();
-        let want = joined.next(text, &mut places);
+        let mut joined_asns = replay::places();
+        let want = joined.next(text, &mut joined_asns);
         joined = replay::state_in(want);
-        let right = replay::same_answer(rt, got, &asns, want, &places)?;
+        let right = replay::same_answer(rt, got, &asns, want, &joined_asns)?;
         t = counted(rt, t, right, part, cut)?;
         if !matches!(got, (_, Ok(Some(_)))) {
             break;

@@ -6,7 +6,7 @@ use cases::{Answer, Program};
 use output::Writer;
 use std::io;
 use std::io::Write;
-use text_dump::{NextError, OpenError, State};
+use text_dump::{OpenError, State};
 
 // A byte as it stands in a case: `_` for a space, `|` for a line feed, any other for itself.
 fn plain(b: u8) -> u8 {
@@ -31,15 +31,13 @@ fn put_plain(s: &[u8], w: &mut Writer) {
 }
 
 // The listing that s spells, where `%` and two digits are a byte too.
-fn listing<'a>(s: &[u8], out: &'a mut [u8]) -> &'a [u8] {
-    let mut w = Writer { out, at: 0 };
+fn put_listing(s: &[u8], w: &mut Writer) {
     let mut pieces = s.split(|b| *b == b'%');
-    put_plain(pieces.next().unwrap_or(&[]), &mut w);
+    put_plain(pieces.next().unwrap_or(&[]), w);
     for piece in pieces {
         w.byte(byte(cases::first(piece, 2)));
-        put_plain(piece.get(2..).unwrap_or(&[]), &mut w);
+        put_plain(piece.get(2..).unwrap_or(&[]), w);
     }
-    cases::text_of(w)
 }
 
 // The float whose bits these are; any NaN for those of one.
@@ -62,12 +60,19 @@ fn read_on(state: State, text: &[u8], out: &mut Answer) -> io::Result<()> {
                 state = s;
             }
             (_, Ok(None)) => return write!(out, "end"),
-            (_, Err(NextError::Spoilt)) => return write!(out, "5"),
-            (_, Err(NextError::Unreadable)) => return write!(out, "6"),
-            (_, Err(NextError::TooFewPlaces)) => return write!(out, "7"),
+            (_, Err(refusal)) => return write!(out, "{}", refusal.number()),
         }
     }
     write!(out, "..")
+}
+
+// 01's number of the refusal, and the line at fault where there is one.
+fn put_refusal(error: OpenError, out: &mut Answer) -> io::Result<()> {
+    let number = error.number();
+    match error {
+        OpenError::Unreadable(line) => write!(out, "{number} {line}"),
+        _ => write!(out, "{number}"),
+    }
 }
 
 struct ReaderCases;
@@ -75,12 +80,15 @@ struct ReaderCases;
 impl Program for ReaderCases {
     fn answer(&self, case: &[u8], out: &mut Answer) -> io::Result<()> {
         let mut bytes = [0; 4096];
-        let text = listing(cases::field(case, 2), &mut bytes);
+        let mut w = Writer {
+            out: &mut bytes,
+            at: 0,
+        };
+        put_listing(cases::field(case, 2), &mut w);
+        let text = w.text();
         match State::open(text, timestamp(cases::number(case, 1) as u64)) {
             Ok(state) => read_on(state, text, out),
-            Err(OpenError::NoTimestamp) => write!(out, "4"),
-            Err(OpenError::Unreadable(n)) => write!(out, "1 {n}"),
-            Err(OpenError::NoColumns) => write!(out, "2"),
+            Err(error) => put_refusal(error, out),
         }
     }
 }

@@ -5,13 +5,12 @@
 ghost use Rattle.std.specs.Prelude.{◌≡◌};
 ghost use Rattle.network.specs.declared.IpAddr.TheVariants.{V4};
 
-use cases::{Marked, Tally};
+use cases::Tally;
 use columns::Columns;
 use elem::Element;
 use network::{Asn, IpAddr};
 use plain_calls::{Given, Plain, Prefix, Refusal};
-use std::io::{Cursor, Write};
-use std::{fmt, io, str};
+use std::{fmt, io};
 use text_dump::{NextError, Remembered, State};
 
 // What next answers, with the state that it leaves.
@@ -20,87 +19,53 @@ pub type Next = (State, Result<Option<Element>, NextError>);
 // How many AS places are lent.
 pub const PLACES: usize = 16;
 
-// The most bytes of a text.
-const TEXT: usize = 4096;
+// The bits of a float; none for those of a NaN, which are not determined.
+fn bits(x: f64) -> Option<u64> {
+    if x.is_nan() { None } else { Some(x.to_bits()) }
+}
 
-// A float by its bits.
-#[derive(Clone, Copy)]
-struct Bits(f64);
+// Whether all fields are equal, the timestamps by their bits: a NaN is equal to a NaN, and -0.0 is
+// not to 0.0.
+fn equal_states(a: State, b: State) -> bool {
+    let timestamp = 0.0;
+    bits(a.timestamp) == bits(b.timestamp) && State { timestamp, ..a } == State { timestamp, ..b }
+}
 
-impl fmt::Display for Bits {
-    fn fmt<W: fmt::Write>(&self, f: &mut fmt::Formatter<W>) -> fmt::Result {
-        if self.0.is_nan() {
-            write!(f, "nan")
-        } else {
-            write!(f, "{}", self.0.to_bits())
+// The same of elements.
+// Stays beside the states': a trait that sets the timestamp of both would be longer than the two.
+fn equal_elements(a: Element, b: Element) -> bool {
+    let timestamp = 0.0;
+    bits(a.timestamp) == bits(b.timestamp)
+        && Element { timestamp, ..a } == Element { timestamp, ..b }
+}
+
+// What next answered and left: the state and every place of the list.
+#[derive(Clone, Copy, Debug)]
+struct Left<'a> {
+    answer: Result<Option<Element>, NextError>,
+    state: State,
+    asns: &'a [u32],
+}
+
+impl Left<'_> {
+    fn of<'a>(next: Next, asns: &'a [u32]) -> Left<'a> {
+        let (state, answer) = next;
+        Left {
+            answer,
+            state,
+            asns,
         }
     }
-}
 
-// Every field of a state.
-// Stays a text: a timestamp is compared by its bits, so that NaN is NaN and -0.0 is not 0.0; by
-// `==` it would be the other way round.
-#[derive(Clone, Copy)]
-struct Whole(State);
-
-impl fmt::Display for Whole {
-    fn fmt<W: fmt::Write>(&self, f: &mut fmt::Formatter<W>) -> fmt::Result {
-        let State {
-            columns,
-            peer_ip,
-            peer_asn,
-            timestamp,
-            remembered,
-            position,
-        } = self.0;
-        write!(
-            f,
-            "{position} {remembered:?} {peer_ip:?} {peer_asn:?} {columns:?} "
-        )?;
-        write!(f, "{}", Bits(timestamp))
-    }
-}
-
-// An element by its line.
-#[derive(Clone, Copy)]
-struct Line<'a>(Element, &'a [u32]);
-
-impl fmt::Display for Line<'_> {
-    fn fmt<W: fmt::Write>(&self, f: &mut fmt::Formatter<W>) -> fmt::Result {
-        let mut line = [0; TEXT];
-        let written = psv::to_psv(self.0, self.1, &mut line);
-        match str::from_utf8(cases::written_or(written, &line, b"no line")) {
-            Ok(text) => f.write_str(text),
-            Err(_) => write!(f, "no text"),
+    // Whether both have the same element, with its AS numbers, or the same refusal.
+    fn answers_as(self, other: Left) -> bool {
+        match (self.answer, other.answer) {
+            (Ok(Some(a)), Ok(Some(b))) => {
+                equal_elements(a, b)
+                    && cases::first(self.asns, a.count) == cases::first(other.asns, b.count)
+            }
+            (a, b) => a == b,
         }
-    }
-}
-
-// What next answered: the element, or what else it is.
-#[derive(Clone, Copy)]
-struct Said<'a>(Next, &'a [u32]);
-
-impl fmt::Display for Said<'_> {
-    fn fmt<W: fmt::Write>(&self, f: &mut fmt::Formatter<W>) -> fmt::Result {
-        match self.0 {
-            (_, Ok(Some(e))) => write!(f, "{}", Line(e, self.1)),
-            (_, Ok(None)) => write!(f, "end"),
-            (_, Err(NextError::Spoilt)) => write!(f, "5"),
-            (_, Err(NextError::Unreadable)) => write!(f, "6"),
-            (_, Err(NextError::TooFewPlaces)) => write!(f, "7"),
-        }
-    }
-}
-
-// What next answered and left: every field of the state and every place of the list.
-#[derive(Clone, Copy)]
-struct Left<'a>(Next, &'a [u32]);
-
-impl fmt::Display for Left<'_> {
-    fn fmt<W: fmt::Write>(&self, f: &mut fmt::Formatter<W>) -> fmt::Result {
-        let said = Said(self.0, self.1);
-        let state = Whole(state_in(self.0));
-        write!(f, "{said} {state}{}", Marked(" ", self.1))
     }
 }
 
@@ -108,28 +73,13 @@ pub fn state_in(n: Next) -> State {
     n.0
 }
 
-fn text_of<'a, D: fmt::Display>(shown: &D, room: &'a mut [u8]) -> io::Result<&'a [u8]> {
-    let mut w = Cursor::new(&mut *room);
-    write!(w, "{shown}")?;
-    let n = w.position() as usize;
-    Ok(cases::first(room, n))
-}
-
-// Whether two are shown by the same text; where they are not, both are printed.
-fn same<D: fmt::Display>(rt: &impl Print, got: &D, want: &D) -> io::Result<bool> {
-    let mut got_room = [0; TEXT];
-    let mut want_room = [0; TEXT];
-    let got = text_of(got, &mut got_room)?;
-    let want = text_of(want, &mut want_room)?;
-    if got == want {
-        return Ok(true);
+// Whether two are the same; where they are not, both are printed.
+fn shown<D: fmt::Debug + Copy>(rt: &impl Print, same: bool, got: D, want: D) -> io::Result<bool> {
+    if !same {
+        println!(rt; "  is: {got:?}")?;
+        println!(rt; "not: {want:?}")?;
     }
-    rt.write_all(b"  is: ")?;
-    rt.write_all(got)?;
-    rt.write_all(b"\nnot: ")?;
-    rt.write_all(want)?;
-    rt.write_all(b"\n")?;
-    Ok(false)
+    Ok(same)
 }
 
 // Whether next gave this element, or this refusal.
@@ -138,9 +88,11 @@ pub fn same_answer(
     got: Next,
     asns: &[u32],
     want: Next,
-    places: &[u32],
+    want_asns: &[u32],
 ) -> io::Result<bool> {
-    same(rt, &Said(got, asns), &Said(want, places))
+    let got = Left::of(got, asns);
+    let want = Left::of(want, want_asns);
+    shown(rt, got.answers_as(want), got, want)
 }
 
 // Whether next answered as it should, with every field and every place.
@@ -149,13 +101,16 @@ pub fn same_next(
     got: Next,
     asns: &[u32],
     want: Next,
-    places: &[u32],
+    want_asns: &[u32],
 ) -> io::Result<bool> {
-    same(rt, &Left(got, asns), &Left(want, places))
+    let got = Left::of(got, asns);
+    let want = Left::of(want, want_asns);
+    let same = got.answers_as(want) && equal_states(got.state, want.state) && got.asns == want.asns;
+    shown(rt, same, got, want)
 }
 
 pub fn same_state(rt: &impl Print, got: State, want: State) -> io::Result<bool> {
-    same(rt, &Whole(got), &Whole(want))
+    shown(rt, equal_states(got, want), got, want)
 }
 
 // What a listing's header says in these programs, with these columns, and a timestamp.
@@ -222,7 +177,7 @@ pub struct Both {
     pub state: State,
     pub plain: Plain,
     pub asns: [u32; PLACES],
-    pub places: [u32; PLACES],
+    pub plain_asns: [u32; PLACES],
     // Whether the call was a next that gave no element.
     pub stopped: bool,
     // Whether it did what it had to.
@@ -244,7 +199,7 @@ pub fn begin(
         state,
         plain,
         asns: places(),
-        places: places(),
+        plain_asns: places(),
         stopped: false,
         right: same_state(rt, state, state_of(given, plain, base))?,
     })
@@ -257,11 +212,16 @@ pub fn next(rt: &impl Print, b: Both, part: &[u8], base: usize, k: usize) -> io:
         state,
         mut plain,
         mut asns,
-        mut places,
+        mut plain_asns,
         ..
     } = b;
     let body = cases::part(part, base, part.len());
-    let answer = plain_calls::next(given, &mut plain, body, cases::first_mut(&mut places, k));
+    let answer = plain_calls::next(
+        given,
+        &mut plain,
+        body,
+        cases::first_mut(&mut plain_asns, k),
+    );
     let want = (state_of(given, plain, base), answer.map_err(refusal_of));
     let got = next_with(state, part, k, &mut asns);
     Ok(Both {
@@ -269,9 +229,9 @@ pub fn next(rt: &impl Print, b: Both, part: &[u8], base: usize, k: usize) -> io:
         state: state_in(got),
         plain,
         asns,
-        places,
+        plain_asns,
         stopped: !matches!(got, (_, Ok(Some(_)))),
-        right: same_next(rt, got, &asns, want, &places)?,
+        right: same_next(rt, got, &asns, want, &plain_asns)?,
     })
 }
 

@@ -42,12 +42,21 @@ open_with time (Err (UnreadableLine n)) = refused 1 n
 unfoldable pub open_of : Float → List ℕ → Opening
 open_of time s = cond (is_timestamp time) (open_with time (header s)) (refused 4 0)
 
+-- 01's number of a refusal, and the line at fault, 0 where no line is
+abbrev pub number : OpenError → ℕ
+number NoTimestamp = 4
+number (Unreadable n) = 1
+number NoColumns = 2
+
+abbrev pub line_at_fault : OpenError → ℕ
+line_at_fault NoTimestamp = 0
+line_at_fault (Unreadable n) = n
+line_at_fault NoColumns = 0
+
 -- the answers' numbers and values
 abbrev pub told : Result State OpenError → Opening
 told (Ok σ) = opened σ
-told (Err NoTimestamp) = refused 4 0
-told (Err (Unreadable n)) = refused 1 n
-told (Err NoColumns) = refused 2 0
+told (Err e) = refused (number e) (line_at_fault e)
 
 -- opening's refusal for the scan's
 abbrev pub of_header : HeaderError → OpenError

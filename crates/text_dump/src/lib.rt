@@ -5,11 +5,11 @@
 ghost use Rattle.std.specs.Prelude.{◌≡◌, length, take};
 ghost use Rattle.plain_reader.specs.Rules.{replace};
 ghost use Rattle.text_dump.specs.State.{plain, valid_remembered, spoilt, turned, moved};
-ghost use Rattle.text_dump.specs.Open.{peer_ip, peer_asn, open_of, of_header, told as toldOpened};
+ghost use Rattle.text_dump.specs.Open.{peer_ip, peer_asn, open_of, of_header, told as toldOpened, number as open_number};
 ghost use Rattle.text_dump.specs.Rules.{text_of, origin_asn, element_of};
 ghost use Rattle.path_text.specs.Path.{asns_of};
 ghost use Rattle.text_dump_line.specs.Line.{path_of};
-ghost use Rattle.text_dump.specs.Next.{stepped, next as next_of, at_route, Answers};
+ghost use Rattle.text_dump.specs.Next.{stepped, next as next_of, at_route, Answers, number as next_number};
 
 use columns::Columns;
 use elem::Element;
@@ -34,13 +34,27 @@ pub struct State {
     pub position: usize,
 }
 
-// Why no table is opened (01, Where a call says no): 4, 1 with the number of the unreadable line,
-// and 2.
+// Why no table is opened (01, Where a call says no): an unreadable line comes with its number in
+// the text.
 #[derive(Debug, Clone, Copy, PartialEq, Eq)]
 pub enum OpenError {
     NoTimestamp,
     Unreadable(usize),
     NoColumns,
+}
+
+impl OpenError {
+    // 01's number of the refusal.
+    #[inline(always)]
+    pub fn number(self) -> u32
+        ensures { result ≡ open_number self }
+    {
+        match self {
+            OpenError::NoTimestamp => 4,
+            OpenError::Unreadable(_) => 1,
+            OpenError::NoColumns => 2,
+        }
+    }
 }
 
 impl From<HeaderError> for OpenError {
@@ -53,12 +67,26 @@ impl From<HeaderError> for OpenError {
     }
 }
 
-// Why next refuses (01, Where a call says no): 5, 6, 7.
+// Why next refuses (01, Where a call says no).
 #[derive(Debug, Clone, Copy, PartialEq, Eq)]
 pub enum NextError {
     Spoilt,
     Unreadable,
     TooFewPlaces,
+}
+
+impl NextError {
+    // 01's number of the refusal.
+    #[inline(always)]
+    pub fn number(self) -> u32
+        ensures { result ≡ next_number self }
+    {
+        match self {
+            NextError::Spoilt => 5,
+            NextError::Unreadable => 6,
+            NextError::TooFewPlaces => 7,
+        }
+    }
 }
 
 fn peer_ip(id: Option<IpAddr>) -> IpAddr

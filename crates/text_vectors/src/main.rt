@@ -8,12 +8,8 @@ use std::io::Write;
 // The tokens in hexadecimal, with commas between them.
 fn put_tokens(s: &[u8], out: &mut Answer) -> io::Result<()> {
     let mut at = 0;
-    // No text has more tokens than bytes.
-    for k in 0..s.len() {
-        let Some((a, e)) = text::next_token(s, at) else {
-            break;
-        };
-        let mark = if k == 0 { "" } else { "," };
+    while let Some((a, e)) = text::next_token(s, at) {
+        let mark = if at == 0 { "" } else { "," };
         write!(out, "{mark}{}", InHex(cases::part(s, a, e)))?;
         at = e;
     }
