@@ -1,47 +1,56 @@
 -- The code's word of the bytes from a place on. Assumes nothing.
 use mathlib.Core.Path.{◌≡◌, refl, sym, ap, ◌∙◌}
-use mathlib.Core.List.{List, ◌∷◌}
-use Prim.Native.Nat.{ℕ, suc, ◌+◌, ◌*◌, ◌/◌, ◌-◌, ◌^◌, ◌≤◌, ◌<◌}
+use mathlib.Core.List.{List, [], ◌∷◌, ◌++◌, append_assoc, append-nil}
+use Prim.Native.Nat.{ℕ, ◌+◌, ◌*◌, ◌/◌, ◌-◌, ◌^◌, ◌≤◌, ◌<◌}
 use native.Mathlib.Omega.{arith}
-use native.Mathlib.Nat.{add-zero}
 use mir.Syntax.{w64}
 use mir.Val.{Fits}
-use lib.ListN.{length, get_or, take, drop, length-drop, drop_of_length-le}
+use lib.ListN.{length, take, drop, length-drop, drop_of_length-le}
 use lib.Pow.{pow_mono}
-use lib.Seq.{drop-cons, drop-drop, take_all}
+use lib.Seq.{drop-drop, take_all, drop_at, length-take-le}
+use Rattle.std.specs.Array.{IsFirstChunk}
+use Rattle.std.specs.Int.{from_le_bytes}
 use Rattle.word.specs.Word.{number}
-use Rattle.word.proofs.Laws.{Bytes, number_drop, number_bound, drop_bytes, take_bytes}
+use Rattle.word.proofs.Laws.{Bytes, read_le, number_drop, number_bound, drop_bytes, take_bytes}
 
--- `eight_at`: the next of the bytes from at on
-next : (n : ℕ) (s : List ℕ) (at j : ℕ) → at + j < length s → number (take (suc n) (drop (at + j) s)) ≡ get_or s (at + j) 0 + 256 * number (take n (drop (at + suc j) s))
+-- `eight_at`: the eight bytes from at on, by the library's conversion
+pub eight : (s b : List ℕ) (at v : ℕ) → at + 8 ≤ length s → IsFirstChunk (take (length s - at) (drop at s)) b 8 → v ≡ from_le_bytes w64 b
+    → v ≡ number (take 8 (drop at s))
+eight s b at v h f e =
+    let all : take (length s - at) (drop at s) ≡ drop at s = take_all (length s - at) (drop at s) (simp length-drop (omega arith)) in
+    let same : b ≡ take 8 (drop at s) = rw all at f.same in
+    let size : length b ≡ 8 = rw same (length-take-le 8 (drop at s) (simp length-drop (omega arith))) in
+    e ∙ read_le b size ∙ ap number same
+
+-- `few_at`: of the bytes from at on the last ones, q, are read, and those in front of them are left
+abbrev pub Few : (s left : List ℕ) (at w : ℕ) → Type 0
+Few s left at w = (q : List ℕ) × (left ++ q ≡ drop at s) × (w ≡ number q)
+
+pub few_start : (s left : List ℕ) (at : ℕ) → left ≡ take (length s - at) (drop at s) → Few s left at 0
 unfolding number
-next n s at j h = let e : suc (at + j) ≡ at + suc j = omega arith in rw (drop-cons s (at + j) 0 h, e)
+few_start s left at e =
+    let all : take (length s - at) (drop at s) ≡ drop at s = take_all (length s - at) (drop at s) (simp length-drop (omega arith)) in
+    ([], append-nil left ∙ e ∙ all, refl)
 
-pub added : (s : List ℕ) (at : ℕ) → at + 8 ≤ length s
-    → get_or s at 0 + 256 * get_or s (at + 1) 0 + 65536 * get_or s (at + 2) 0 + 16777216 * get_or s (at + 3) 0 + 4294967296 * get_or s (at + 4) 0 + 1099511627776 * get_or s (at + 5) 0 + 281474976710656 * get_or s (at + 6) 0 + 72057594037927936 * get_or s (at + 7) 0
-    ≡ number (take 8 (drop at s))
-unfolding number
-added s at h =
-    omega (arith, rw add-zero at (next 7 s at 0 (omega arith)), next 6 s at 1 (omega arith), next 5 s at 2 (omega arith), next 4 s at 3 (omega arith), next 3 s at 4 (omega arith), next 2 s at 5 (omega arith), next 1 s at 6 (omega arith), next 0 s at 7 (omega arith))
+pub few_all : (s left : List ℕ) (at w : ℕ) → length left ≡ 0 → Few s left at w → w ≡ number (drop at s)
+few_all s [] at w n (q, all, e) = e ∙ ap number all
+few_all s (b ∷ l) at w n (q, all, e) = absurd (let f : ⊥ = omega arith in f)
 
--- `few_at`: the bytes from i on are read
-pub few_start : (s : List ℕ) → 0 ≡ number (drop (length s) s)
-unfolding number
-few_start s = rw (drop_of_length-le s {i = length s} (omega arith))
-
-module _ (s : List ℕ) (i w : ℕ) (at : w ≡ number (drop i s)) (pos : 0 < i) (l : i ≤ length s) where
-  pub few_more : get_or s (i - 1) 0 + 256 * w ≡ number (drop (i - 1) s)
+module _ (s left rest : List ℕ) (b at w : ℕ) (step : left ≡ rest ++ b ∷ []) where
+  pub few_more : Few s left at w → Few s rest at (b + 256 * w)
   unfolding number
-  few_more =
-      let e : suc (i - 1) ≡ i = omega arith in
-      let q : drop (i - 1) s ≡ get_or s (i - 1) 0 ∷ drop i s = drop-cons s (i - 1) 0 (omega arith) ∙ ap (λ n. get_or s (i - 1) 0 ∷ drop n s) e in
-      rw (q, at)
+  few_more (q, all, e) = (b ∷ q, sym (append_assoc rest (b ∷ []) q) ∙ rw step at all, rw e)
 
-  pub few_fits : Bytes s → length s ≤ 7 → Fits w64 (get_or s (i - 1) 0 + 256 * w)
-  few_fits h k =
-      let e : length (drop (i - 1) s) ≤ 7 = simp length-drop (omega arith) in
-      let m : 2 ^ (8 * length (drop (i - 1) s)) ≤ 2 ^ 56 = pow_mono {j = 56} (omega arith) in
-      record { fits = omega (arith, few_more, number_bound (drop (i - 1) s) (drop_bytes (i - 1) s h)) }
+  pub few_fits : Few s left at w → Bytes s → length s ≤ 7 → Fits w64 (b + 256 * w)
+  few_fits f h k = go (few_more f)
+    where
+      go : Few s rest at (b + 256 * w) → Fits w64 (b + 256 * w)
+      go (q, all, e) =
+          let end : q ≡ drop (length rest) (drop at s) = rw (sym all) (sym (drop_at rest q (length rest) refl)) in
+          let size : length q ≤ 7 = rw end (simp length-drop (omega arith)) in
+          let bytes : Bytes q = rw end (drop_bytes (length rest) (drop at s) (drop_bytes at s h)) in
+          let m : 2 ^ (8 * length q) ≤ 2 ^ 56 = pow_mono {j = 56} (omega arith) in
+          record { fits = rw e (omega (arith, number_bound q bytes)) }
 
 -- `word_at`'s ways out
 module _ (s : List ℕ) (at : ℕ) where

@@ -10,16 +10,10 @@ fn eight_at(s: &[u8], at: usize) -> u64
     requires { at + 8 ≤ length s.now }
     ensures { result ≡ number (take 8 (drop at s.now)) }
 {
-    u64::from_le_bytes([
-        s[at],
-        s[at + 1],
-        s[at + 2],
-        s[at + 3],
-        s[at + 4],
-        s[at + 5],
-        s[at + 6],
-        s[at + 7],
-    ])
+    match s[at..].first_chunk::<8>() {
+        Some(bytes) => u64::from_le_bytes(*bytes),
+        None => 0,
+    }
 }
 
 // The bytes from `at` on, of fewer than eight.
@@ -28,8 +22,8 @@ fn few_at(s: &[u8], at: usize) -> u64
     ensures { result ≡ number (drop at s.now) }
 {
     let mut word = 0;
-    for i in (at..s.len()).rev() {
-        word = u64::from(s[i]) + 256 * word;
+    for b in s[at..].iter().rev() {
+        word = u64::from(*b) + 256 * word;
     }
     word
 }

@@ -1,6 +1,5 @@
-use Rattle.std.proofs.Common.{◌≡◌, ◌≤◌, drop}
-use Rattle.word.specs.Word.{number}
+use Rattle.word.proofs.At.{Few}
 use Rattle.word.proofs.few_at.Given as goal
 
-abbrev pub invariant-loop-i : goal.invariant-loop-i
-invariant-loop-i l = (l.at ≤ l.i) × (l.word ≡ number (drop l.i l.s))
+abbrev pub invariant-loop-b : goal.invariant-loop-b
+invariant-loop-b l = Few l.s l.b-iterator.iter.rest.now l.at l.word
