@@ -151,10 +151,10 @@ module _ {p : List Segment} {m : ℕ} (e : m ≡ length (path_text true p)) wher
   pub shown_short : {out : List ℕ} → length out < m → Displayed (Some p) out (Err TooShort) out
   shown_short {out} h = record { told = simp (← e, lt-leb m (length out) h); left = kept (path_text true p) out m e h }
 
-  pub shown_written : {x : List ℕ} {w₀ w : Writer} → m ≤ length w₀.out.now → Writes (path_text true p) w₀ w → w₀.at ≡ 0 → x ≡ w.out.now
-      → Displayed (Some p) w₀.out.now (Ok w.at) x
-  shown_written {w₀ = w₀} h c z f =
+  pub shown_written : {x out : List ℕ} {w₀ w : Writer} → w₀.at ≡ 0 → w₀.out.now ≡ out → m ≤ length out → Writes (path_text true p) w₀ w → x ≡ w.out.now
+      → Displayed (Some p) out (Ok w.at) x
+  shown_written {out = out} z o h c f =
       record {
-        told = rw (place c z (rw e at h)) (simp (← e, le-leb m (length w₀.out.now) h));
-        left = (put e h c z f).1;
+        told = rw (place c z (rw (o, ← e) h)) (simp (← e, le-leb m (length out) h));
+        left = (put z o e h c f).1;
       }

@@ -118,7 +118,7 @@ pub fn display(lent: PathRecord, out: &mut [u8]) -> Result<usize, DisplayError>
     if out.len() < path_len(path) {
         return Err(DisplayError::TooShort);
     }
-    let mut w = Writer { out, at: 0 };
+    let mut w = Writer::new(out);
     write_path(path, &mut w);
     Ok(w.at)
 }

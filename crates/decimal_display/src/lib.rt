@@ -135,10 +135,7 @@ pub fn put_u64(n: u64, out: &mut [u8]) -> Result<usize, PutError>
     ensures { (result ≡ answer (decimal n) out.old) × (out.new ≡ front (decimal n) out.old) }
 {
     let mut places = [0; 20];
-    let mut w = Writer {
-        out: &mut places,
-        at: 0,
-    };
+    let mut w = Writer::new(&mut places);
     write_u64(n, &mut w);
     output::put(w.text(), out)
 }

@@ -43,10 +43,7 @@ pub fn address_len(a: IpAddr) -> usize
     ensures { (result ≡ length (address_text a)) × (result ≤ 45) }
 {
     let mut places = [0; 45];
-    let mut text = Writer {
-        out: &mut places,
-        at: 0,
-    };
+    let mut text = Writer::new(&mut places);
     write_address(a, &mut text);
     text.at
 }
@@ -55,10 +52,7 @@ pub fn put_address(a: IpAddr, out: &mut [u8]) -> Result<usize, PutError>
     ensures { (result ≡ answer (address_text a) out.old) × (out.new ≡ front (address_text a) out.old) }
 {
     let mut places = [0; 45];
-    let mut w = Writer {
-        out: &mut places,
-        at: 0,
-    };
+    let mut w = Writer::new(&mut places);
     write_address(a, &mut w);
     output::put(w.text(), out)
 }
@@ -74,10 +68,7 @@ pub fn put_prefix(p: NetworkPrefix, out: &mut [u8]) -> Result<usize, PutError>
     ensures { (result ≡ answer (prefix_text p) out.old) × (out.new ≡ front (prefix_text p) out.old) }
 {
     let mut places = [0; 66];
-    let mut w = Writer {
-        out: &mut places,
-        at: 0,
-    };
+    let mut w = Writer::new(&mut places);
     write_prefix(p, &mut w);
     output::put(w.text(), out)
 }

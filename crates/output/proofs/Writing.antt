@@ -71,7 +71,7 @@ holds {t} {w₀ = w₀} {w = w} c z h e =
     ∙ rw ((output.all_written t w₀.out.now w.out.now w₀.at w.at c.written (omega (arith, z, h))).0, z) (take_at t (drop (0 + length t) w₀.out.now) w.at (sym (place c z h)))
 
 -- a call that measured its text and has room, so that it lends a writer of its whole list: x is the list afterwards
-pub put : {t x : List ℕ} {n : ℕ} {w₀ w : Writer} → n ≡ length t → n ≤ length w₀.out.now → Writes t w₀ w → w₀.at ≡ 0 → x ≡ w.out.now
-    → ((Ok w.at) ≡ answer t w₀.out.now) × (x ≡ front t w₀.out.now)
-put {t} {x} {n} {w₀} {w} measured h c z e =
-    let k = rw z at c.written in (output.wrote t w₀.out.now n measured w.out.now w.at h k, e ∙ output.whole t w₀.out.now n measured w.out.now w.at h k)
+pub put : {t x out : List ℕ} {n : ℕ} {w₀ w : Writer} → w₀.at ≡ 0 → w₀.out.now ≡ out → n ≡ length t → n ≤ length out → Writes t w₀ w → x ≡ w.out.now
+    → ((Ok w.at) ≡ answer t out) × (x ≡ front t out)
+put {t} {x} {out} {n} {w₀} {w} z o measured h c e =
+    let k = rw (z, o) at c.written in (output.wrote t out n measured w.out.now w.at h k, e ∙ output.whole t out n measured w.out.now w.at h k)

@@ -94,6 +94,14 @@ pub struct Writer<'a> {
 }
 
 impl<'a> Writer<'a> {
+    // A writer of the whole list, from its front on.
+    #[inline(always)]
+    pub fn new(out: &'a mut [u8]) -> Writer<'a>
+        ensures { (result.at ≡ 0) × (result.out.ghost_name ≡ out.entry.ghost_name) × (result.out.now ≡ out.old) }
+    {
+        Writer { out, at: 0 }
+    }
+
     // What stands in the list up to the place: all of it where the place is past its end.
     #[inline(always)]
     pub fn text(&self) -> &[u8]

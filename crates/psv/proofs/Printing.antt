@@ -99,8 +99,7 @@ module _ (begin tail : List ℕ) (e : Element) (asns out : List ℕ) (r : Bool) 
         let z : spoilt e asns ≡ false = sym told ∙ sound in
         let l : length text ≤ length out = omega (arith, text_length, leb-true (length (sequence_text (numbers e asns))) room (sym fits ∙ f)) in
         let a : v.at ≡ length text = place c start (rw o l) in
-        let q = put {t = text} {x = x} {n = length text} {w₀ = w} {w = v} refl (rw o l) c start y in
-        let p = rw o at q in
+        let p = put {t = text} {x = x} {n = length text} start o refl l c y in
         record { told = rw z (simp (le-leb (length text) (length out) l) (ap Ok a)); left = rw z p.1 }
 
 -- the header

@@ -167,10 +167,7 @@ fn put_line(e: Element, asns: &[u32], tail: &[u8], out: &mut [u8]) -> Result<usi
         return Err(ElementError::Spoilt);
     }
     let mut places = [0; 158];
-    let mut begin = Writer {
-        out: &mut places,
-        at: 0,
-    };
+    let mut begin = Writer::new(&mut places);
     write_begin(e, &mut begin);
     let begin = begin.text();
     let numbers = &asns[..e.count];
@@ -179,7 +176,7 @@ fn put_line(e: Element, asns: &[u32], tail: &[u8], out: &mut [u8]) -> Result<usi
     if !has_room(numbers, room) {
         return Err(ElementError::TooShort);
     }
-    let mut w = Writer { out, at: 0 };
+    let mut w = Writer::new(out);
     w.bytes(begin);
     aspath_display::write_numbers(numbers, b' ', &mut w);
     w.bytes(tail);
@@ -198,10 +195,7 @@ fn put_ended<F: FnOnce(Element, &mut Writer)>(
     ensures { (t : List ℕ) → length t ≤ 130 → ((v : _) (w : _) → F.post write e v tt w → Writes t v.now w.now) → Printed (spoilt e asns.now) (line_text t e asns.now) out.old result out.new }
 {
     let mut places = [0; 130];
-    let mut tail = Writer {
-        out: &mut places,
-        at: 0,
-    };
+    let mut tail = Writer::new(&mut places);
     write(e, &mut tail);
     put_line(e, asns, tail.text(), out)
 }
@@ -224,10 +218,7 @@ pub fn put_front(source: Source, out: &mut [u8]) -> Result<usize, PutError>
     ensures { let text = front_text source.announce source.timestamp source.peer_ip source.peer_asn in (result ≡ answer text out.old) × (out.new ≡ front text out.old) }
 {
     let mut places = [0; 90];
-    let mut w = Writer {
-        out: &mut places,
-        at: 0,
-    };
+    let mut w = Writer::new(&mut places);
     write_front(source, &mut w);
     output::put(w.text(), out)
 }
@@ -244,10 +235,7 @@ fn attributes_fit(e: Element, room: usize) -> bool
         return true;
     }
     let mut places = [0; 108];
-    let mut w = Writer {
-        out: &mut places,
-        at: 0,
-    };
+    let mut w = Writer::new(&mut places);
     write_attributes(e, &mut w);
     2 + w.text().len() <= room
 }
@@ -275,7 +263,7 @@ pub fn put_texts(
     if !attributes_fit(e, left) {
         return Err(PutError::TooShort);
     }
-    let mut w = Writer { out, at: 0 };
+    let mut w = Writer::new(out);
     w.bytes(begin);
     w.bytes(path);
     w.byte(b'|');

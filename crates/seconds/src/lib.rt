@@ -106,10 +106,7 @@ pub fn put_timestamp(second: u64, out: &mut [u8]) -> Result<usize, PutError>
     ensures { (result ≡ answer (timestamp_text second) out.old) × (out.new ≡ front (timestamp_text second) out.old) }
 {
     let mut places = [0; 21];
-    let mut w = Writer {
-        out: &mut places,
-        at: 0,
-    };
+    let mut w = Writer::new(&mut places);
     write_timestamp(second, &mut w);
     output::put(w.text(), out)
 }

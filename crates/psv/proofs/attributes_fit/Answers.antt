@@ -1,5 +1,5 @@
 use native.Mathlib.Omega.{arith}
-use mathlib.Core.Path.{refl, sym}
+use mathlib.Core.Path.{sym}
 use lib.ListN.{length}
 use Prim.Native.Nat.{◌≤◌}
 use borrow.Author.Tests.{le-leb}
@@ -13,4 +13,4 @@ returns-then-surely c =
     let h : length (attributes_text c.args.e) ≤ 108 = search attributes_le in sym (le-leb _ _ (omega arith))
 
 pub returns : goal.returns
-returns c = let h : length (attributes_text c.args.e) ≤ 108 = search attributes_le in rw (holds c.write_attributes.ensures refl h c.text.ensures)
+returns c = let h : length (attributes_text c.args.e) ≤ 108 = search attributes_le in rw (holds c.write_attributes.ensures c.new-w.ensures.0 (rw c.new-w.ensures.2 h) c.text.ensures)

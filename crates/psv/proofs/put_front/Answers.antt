@@ -1,4 +1,3 @@
-use mathlib.Core.Path.{refl}
 use borrow.Author.Rules.{rules}
 use Rattle.output.proofs.Writing.{holds}
 use Rattle.psv.proofs.Longest.{front_le}
@@ -6,4 +5,4 @@ use Rattle.psv.proofs.put_front.Goals as goal
 
 pub returns : goal.returns
 returns c =
-    rw (holds c.write_front.ensures refl (front_le _ _ _ _ (search rules) (search rules)) c.text.ensures) at c.put.ensures
+    rw (holds c.write_front.ensures c.new-w.ensures.0 (rw c.new-w.ensures.2 (front_le _ _ _ _ (search rules) (search rules))) c.text.ensures) at c.put.ensures
