@@ -189,6 +189,7 @@ impl<'a> Row<'a> {
         }
     }
 
+    #[inline(always)]
     #[tactic(auto, using(crate::proofs::LineLaws::route_laws), unfolding(crate::specs::Line::route_of))]
     fn route(self) -> Option<(PrefixText, RouteEntry)>
         ensures { result ≡ route_of self.entry.columns self.entry.text.now }
@@ -204,29 +205,21 @@ impl<'a> Row<'a> {
     }
 }
 
-// By the columns, else by those shifted. One place calls, so that the compiler joins the two
-// functions and copies no route in between.
+// By the columns, else by those shifted. The calls are inlined, so that no route is copied.
 #[tactic(auto, unfolding(crate::specs::Line::any_route))]
 fn any_route(ascii: bool, t: &[u8], c: Columns) -> Option<(PrefixText, RouteEntry)>
     requires { ascii ≡ true → all is_one t.now ≡ true }
     ensures { result ≡ any_route c t.now }
 {
-    for is_shifted in [false, true] {
-        let tried = if is_shifted {
-            // Stays let .. else, as in Row::route.
-            let Some(shifted) = columns::shift_columns_left(c) else {
-                return None;
-            };
-            shifted
-        } else {
-            c
-        };
-        let route = Row::new(ascii, t, tried).route();
-        if route.is_some() {
-            return route;
-        }
+    let route = Row::new(ascii, t, c).route();
+    if route.is_some() {
+        return route;
     }
-    None
+    // Stays let .. else, as in Row::route.
+    let Some(shifted) = columns::shift_columns_left(c) else {
+        return None;
+    };
+    Row::new(ascii, t, shifted).route()
 }
 
 // Not known to be ASCII, here and in the next function: the slices are tested.
