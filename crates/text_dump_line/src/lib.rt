@@ -136,6 +136,8 @@ impl<'a> Row<'a> {
         fields::read_address(self.slice(self.columns.next_hop, self.columns.metric))
     }
 
+    // Inlined, so that no number is copied.
+    #[inline(always)]
     #[tactic(auto, using(crate::proofs::LineLaws::number_read))]
     fn number(self, a: usize, b: usize) -> Option<u32>
         requires { self.is_whole ≡ true → has_slice self.text.now a b ≡ true }
@@ -164,19 +166,14 @@ impl<'a> Row<'a> {
         }
     }
 
-    // One place calls `number`, so that the compiler joins it in and copies no number in between:
-    // the metric is read first, and handed on when the local preference is read.
+    #[inline(always)]
     #[tactic(auto, using(crate::proofs::LineLaws::entry_laws))]
     fn entry(self, next_hop: IpAddr) -> RouteEntry
         ensures { result ≡ entry_of self.entry.columns next_hop self.entry.text.now }
     {
         let c = self.columns;
-        let mut metric = None;
-        let mut local_pref = None;
-        for (a, b) in [(c.metric, c.local_pref), (c.local_pref, c.weight)] {
-            metric = local_pref;
-            local_pref = self.number(a, b);
-        }
+        let metric = self.number(c.metric, c.local_pref);
+        let local_pref = self.number(c.local_pref, c.weight);
         let path_start = self.path_start();
         let origin = path_text::origin_of(&self.text[path_start..]);
         RouteEntry {
