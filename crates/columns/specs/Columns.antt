@@ -11,7 +11,8 @@ begins [] ws = true
 begins (n ∷ ns) [] = false
 begins (n ∷ ns) (w ∷ ws) = equal w n && begins ns ws
 
--- the name's words stand in the line at the place i, or behind a gap there: `Next` followed by `Hop` is one column
+-- the name's words stand in the line at the place i, or behind a gap there: `Next` followed by
+-- `Hop` is one column
 unfoldable pub words_begin : List ℕ → List ℕ → ℕ → Bool
 words_begin name s i = begins (words name) (words (drop i s))
 

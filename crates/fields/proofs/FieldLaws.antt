@@ -1,4 +1,5 @@
--- Laws of what is read: an address or a prefix at the front with spaces behind it, else the trimmed text.
+-- Laws of what is read: an address or a prefix at the front with spaces behind it, else the trimmed
+-- text.
 use Rattle.std.specs.Prelude.{Option, Some}
 use Rattle.std.proofs.Common.{◌≡◌, ℕ, ◌+◌, ◌-◌, ◌*◌, ◌<◌, ◌≤◌, Bool, true, leb, List, [], ◌∷◌, length, get_or, take, drop, sym, refl, ap, ◌∙◌, arith, length-take-le, get_or-take, take-take, le-ltb, lt-ltb, ne_eqb}
 use lib.Seq.{slice}

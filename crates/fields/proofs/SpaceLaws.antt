@@ -1,4 +1,5 @@
--- Laws of spaces: a text of spaces alone, and spaces behind a text, as the loops meet them and as trimming does.
+-- Laws of spaces: a text of spaces alone, and spaces behind a text, as the loops meet them and as
+-- trimming does.
 use Rattle.std.proofs.Common.{◌≡◌, ℕ, zero, suc, ◌+◌, ◌-◌, ◌*◌, ◌/◌, ◌≤◌, Option, Some, None, is_some, is_none, Bool, true, false, cond, not, ◌&&◌, List, [], ◌∷◌, ◌++◌, length, get_or, take, drop, sym, refl, ap, ◌∙◌, append_assoc, append-nil, arith, length-append, length-drop, take-append-drop, take_all, take_at, eqb-true, le-leb}
 use Rattle.std.specs.List.{list_all, position, position_from}
 use Rattle.std.specs.Simd.{first_chunks}

@@ -58,8 +58,8 @@ fn digit(b: u8) -> u32
     u32::from(b.wrapping_sub(b'0'))
 }
 
-// One to three digits, at most 255, no leading zero: the octet, and the place behind its digits.
-// What stands behind them is the caller's.
+// One to three digits, at most 255, no leading zero: the octet, and the place after its digits.
+// What stands after them is the caller's.
 #[tactic(auto, using(crate::proofs::OctetLaws::octet_laws))]
 fn octet_at(s: &[u8], at: usize) -> Option<(u32, usize)>
     requires { at + 3 ≤ length s.now }
@@ -87,7 +87,7 @@ fn octet_at(s: &[u8], at: usize) -> Option<(u32, usize)>
     Some((v, at + 3))
 }
 
-// The address at the front, and the place behind it. It has at most 15 bytes: among 16 no end
+// The address at the front, and the place after it. It has at most 15 bytes: among 16 no end
 // needs a test.
 #[tactic(auto, using(crate::proofs::FrontLaws::front_laws))]
 fn address_front(s: &[u8]) -> Option<(u32, usize)>
@@ -111,20 +111,20 @@ fn address_front(s: &[u8]) -> Option<(u32, usize)>
 }
 
 // '/' and one or two digits, at most 32, where there are three bytes: the length, and the place
-// behind its digits.
+// after its digits.
 #[tactic(auto, using(crate::proofs::BitsLaws::bits_laws))]
 fn bits_at(s: &[u8], at: usize) -> Option<(u8, usize)>
     requires { at ≤ length s.now }
     ensures { IfSome result (λ p. BitsAt s.now at p.1 p.0) }
 {
-    if s.len() - at < 3 || s[at] != b'/' {
+    let [b'/', first, second, ..] = &s[at..] else {
         return None;
-    }
-    let a = digit(s[at + 1]);
+    };
+    let a = digit(*first);
     if 9 < a {
         return None;
     }
-    let b = digit(s[at + 2]);
+    let b = digit(*second);
     if 9 < b {
         return Some((a as u8, at + 2));
     }

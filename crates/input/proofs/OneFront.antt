@@ -1,4 +1,5 @@
--- The bytes at hand have one answer to which line comes next: the contract of `line_at` leaves no choice.
+-- The bytes at hand have one answer to which line comes next: the contract of `line_at` leaves no
+-- choice.
 use Prim.Native.Nat.{ℕ, suc, ◌+◌, ◌-◌}
 use mathlib.Core.Path.{◌≡◌, refl, sym, ap, ◌∙◌}
 use mathlib.Core.Bool.{Bool, true, false, cond, false≢true, ◌||◌}

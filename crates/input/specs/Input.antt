@@ -9,11 +9,13 @@ use Rattle.input.specs.declared.Front.TheVariants as front
 abbrev pub Later : Bool → List ℕ → Type 0
 Later ended later = ended ≡ true → later ≡ []
 
--- more input is wanted: it has not ended, there is no whole line from `at` on, and what there is of one is not too long yet
+-- more input is wanted: it has not ended, there is no whole line from `at` on, and what there is of
+-- one is not too long yet
 abbrev pub Starved : List ℕ → ℕ → Bool → Type 0
 Starved s at ended = (ended ≡ false) × (any_of is_feed (drop at s) ≡ false) × (at < length s → length s ≤ 65536)
 
--- the line from `at` on: where it ends, whatever comes later. It is too long where it ends behind 65,536 bytes (01, 13: the line, or all lines scanned
+-- the line from `at` on: where it ends, whatever comes later. It is too long where it ends behind
+-- 65,536 bytes (01, 13: the line, or all lines scanned
 -- for the column header up to and with it).
 abbrev pub Fronts : List ℕ → ℕ → Bool → Front → Type 0
 Fronts s at ended (front.Line e) =

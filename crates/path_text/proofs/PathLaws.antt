@@ -52,7 +52,8 @@ module _ (s last : List ℕ) (at : ℕ) (inv : last_token s ≡ last_or last (to
   unfolding last_or
   last_later a e f = inv ∙ rw (walk s at a e (sym q ∙ f)).step
 
--- an origin is no number: taken off or not, the AS numbers are the same, so that the code need not take it off
+-- an origin is no number: taken off or not, the AS numbers are the same, so that the code need not
+-- take it off
 origin_no_number : (w : List ℕ) → is_known (letter w) ≡ true → read_u32 w ≡ None
 unfolding letter unsigned digits behind
 origin_no_number w e = go (equal w (ascii "i")) (equal w (ascii "e")) (equal w (ascii "?")) refl refl refl e

@@ -22,7 +22,8 @@ abbrev pub IsPlain : List ℕ → ℕ → Option (ℕ × ℕ) → Type 0
 IsPlain s i (Some t) = Takes s i t.0 t.1
 IsPlain s i None = Unit {0}
 
--- what is told of the next token: its number, if it is one, is the next of them, and the place e is behind it; at the path's end none are left
+-- what is told of the next token: its number, if it is one, is the next of them, and the place e is
+-- behind it; at the path's end none are left
 abbrev pub Finds : List ℕ → ℕ → Option (Option ℕ × ℕ) → Type 0
 Finds s i (Some t) = Steps s i t.1 × (asns_from s i ≡ if_number t.0 (asns_from s t.1))
 Finds s i None = asns_from s i ≡ []

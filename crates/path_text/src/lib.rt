@@ -86,7 +86,7 @@ fn is_lone(part: &[u8], at: usize) -> bool
     at < part.len() && part.len() - at == 1 && !part[at].is_ascii_digit()
 }
 
-// The next token's number, if it is one, with the place behind the token; none at the path's end.
+// The next token's number, if it is one, with the place after the token; none at the path's end.
 #[tactic(auto, using(crate::proofs::PathLaws::next_asn_laws))]
 fn next_asn(part: &[u8], at: usize) -> Option<(Option<u32>, usize)>
     ensures { Finds part.now at result }

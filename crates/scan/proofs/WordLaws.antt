@@ -22,7 +22,8 @@ module _ (s : List ℕ) (i a : ℕ) (q : a ≡ end_while is_gap s i) where
   unfolding next_word
   nowhere h = rw (← q, le-ltb a (length s) h)
 
--- the walk: the words from the place i on are none, or the one that is found and the words from its end on
+-- the walk: the words from the place i on are none, or the one that is found and the words from its
+-- end on
 pub words_none : (s : List ℕ) (i : ℕ) → next_word s i ≡ None → words (drop i s) ≡ []
 unfolding next_word
 words_none s i e = go (ltb (end_while is_gap s i) (length s)) refl e

@@ -1,4 +1,5 @@
--- Laws of reversed, trimmed and split lists: of tests that all elements pass, and of mapped elements.
+-- Laws of reversed, trimmed and split lists: of tests that all elements pass, and of mapped
+-- elements.
 use mathlib.Core.Path.{◌≡◌, refl, sym, ap, ◌∙◌}
 use mathlib.Core.List.{List, [], ◌∷◌, ◌++◌, append-nil, append_assoc, map, reverse, reverse_aux, reverse-append, reverse-cons, reverse-reverse}
 use mathlib.Core.Bool.{Bool, true, false, cond}

@@ -1,4 +1,5 @@
--- Laws of white space at the places where the loops stand: from the place i on, and in front of the place n.
+-- Laws of white space at the places where the loops stand: from the place i on, and in front of the
+-- place n.
 use mathlib.Core.Path.{◌≡◌, sym, ap, ◌∙◌}
 use mathlib.Core.List.{List, reverse}
 use Prim.Native.Nat.{ℕ, ◌+◌, ◌-◌, ◌^◌, ◌≤◌, ◌<◌}

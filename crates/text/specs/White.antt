@@ -49,7 +49,8 @@ tokens s = map flatten (tokens_by is_space (chars s))
 unfoldable pub after_token : List ℕ → List ℕ
 after_token s = skip (λ p. not (is_space p)) s
 
--- the token at the front of t, which is what is left of s where the white space ends: its start and end in s
+-- the token at the front of t, which is what is left of s where the white space ends: its start and
+-- end in s
 abbrev pub token_at : List ℕ → List ℕ → Option (ℕ × ℕ)
 token_at s [] = None
 token_at s (b ∷ t) = Some (length s - length (b ∷ t), length s - length (after_token (b ∷ t)))
@@ -58,7 +59,8 @@ token_at s (b ∷ t) = Some (length s - length (b ∷ t), length s - length (aft
 unfoldable pub next_token : List ℕ → ℕ → Option (ℕ × ℕ)
 next_token s i = token_at s (trim_start (drop i s))
 
--- how many bytes the first of these characters has where it is white, else 0 (for the functions that look at one end of a text)
+-- how many bytes the first of these characters has where it is white, else 0 (for the functions
+-- that look at one end of a text)
 unfoldable pub white_len : List (List ℕ) → ℕ
 white_len [] = 0
 white_len (p ∷ l) = cond (is_space p) (length p) 0

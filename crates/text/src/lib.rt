@@ -115,7 +115,7 @@ fn other_white_end(s: &[u8]) -> usize
     }
 }
 
-// What is left behind the white space at the front. The place moves and the slice stays as it is,
+// What is left after the white space at the front. The place moves and the slice stays as it is,
 // since one that is cut anew at each turn goes through memory.
 #[tactic(auto, using(crate::proofs::PlaceLaws::start_laws))]
 pub fn trim_start(s: &[u8]) -> &[u8]
@@ -202,7 +202,7 @@ fn token_end(s: &[u8], at: usize) -> usize
     end
 }
 
-// The next token at the place `at` or behind it.
+// The next token at the place `at` or after it.
 #[tactic(auto, using(crate::proofs::TokenLaws::next_laws))]
 pub fn next_token(s: &[u8], at: usize) -> Option<(usize, usize)>
     ensures { result ≡ next_token s.now at }

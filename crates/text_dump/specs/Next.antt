@@ -18,7 +18,8 @@ Step = Answer WithAsns × State
 abbrev pub stepped : State → Answer WithAsns × Cursor NetworkPrefix → Step
 stepped σ z = (z.0, moved σ z.1)
 
--- next over a part, with k AS places: 5 if the state is spoilt, and else what the plain reader answers from the state's position on
+-- next over a part, with k AS places: 5 if the state is spoilt, and else what the plain reader
+-- answers from the state's position on
 unfoldable pub next : State → List ℕ → ℕ → Step
 next σ t k = cond (spoilt σ (length t)) (refused 5, σ) (stepped σ (next_at (rules σ) t k (cursor σ)))
 
@@ -28,13 +29,15 @@ number Spoilt = 5
 number Unreadable = 6
 number TooFewPlaces = 7
 
--- the answers' numbers and values, with the lent list as next leaves it: an element's AS numbers are the first of it
+-- the answers' numbers and values, with the lent list as next leaves it: an element's AS numbers
+-- are the first of it
 abbrev pub told : (State × Result (Option Element) NextError) → List ℕ → Step
 told (σ, Ok (Some e)) asns = (element (e, take e.count asns), σ)
 told (σ, Ok None) asns = (end, σ)
 told (σ, Err e) asns = (refused (number e), σ)
 
--- what next leaves in the lent list: an element's AS numbers from place 0 on and all other places as they were; all of it as it was in End and in refusals
+-- what next leaves in the lent list: an element's AS numbers from place 0 on and all other places
+-- as they were; all of it as it was in End and in refusals
 abbrev pub lent : Answer WithAsns → List ℕ → List ℕ
 lent (element e) old = e.1 ++ drop (length e.1) old
 lent end old = old

@@ -57,7 +57,8 @@ element_of σ p e count origin =
 abbrev pub WithAsns : Type 0
 WithAsns = Element × List ℕ
 
--- the rules under the columns, the peer and the timestamp of a state; next is lent so many AS places
+-- the rules under the columns, the peer and the timestamp of a state; next is lent so many AS
+-- places
 abbrev pub rules : State → Rules
 rules σ =
     record {

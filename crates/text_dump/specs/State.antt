@@ -39,6 +39,7 @@ valid_remembered Nothing = true
 valid_remembered Invalid = true
 valid_remembered (Valid p) = valid_prefix p
 
--- 5 (01, Where a call says no), over a part of n bytes: position past the part, columns not rising, timestamp, prefix length
+-- 5 (01, Where a call says no), over a part of n bytes: position past the part, columns not rising,
+-- timestamp, prefix length
 unfoldable pub spoilt : State → ℕ → Bool
 spoilt σ n = ltb n σ.position || not (are_rising σ.columns) || not (is_timestamp σ.timestamp) || not (valid_remembered σ.remembered)

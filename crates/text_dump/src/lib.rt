@@ -110,7 +110,7 @@ fn is_valid_remembered(m: Remembered) -> bool
     }
 }
 
-// What is remembered behind a route: any prefix text but a blank one replaces it.
+// What is remembered after a route: any prefix text but a blank one replaces it.
 #[tactic(auto, using(crate::proofs::StateLaws::replaces))]
 pub fn replaced(text: PrefixText, m: Remembered) -> Remembered
     ensures { plain result ≡ replace (text_of text) (plain m) }

@@ -1,4 +1,5 @@
--- What follows a header that ends with its column line changes nothing: for whoever opens a table in parts.
+-- What follows a header that ends with its column line changes nothing: for whoever opens a table
+-- in parts.
 use Rattle.std.specs.Prelude.{Option, Some, None, Result, Ok, Err}
 use Prim.Native.Nat.{ℕ, zero, suc, ◌+◌}
 use mathlib.Core.Path.{◌≡◌, refl, sym, ap, ◌∙◌}

@@ -1,17 +1,16 @@
 -- Laws of detection.
 use Prim.Native.Nat.{ℕ, ◌<◌, ◌≤◌, min}
 use mathlib.Core.Path.{◌≡◌, refl, sym, ◌∙◌}
-use mathlib.Core.Bool.{Bool, true, false, ◌&&◌, ◌||◌}
+use mathlib.Core.Bool.{Bool, true, false}
 use mathlib.Core.List.{List, [], ◌∷◌}
 use native.Mathlib.Omega.{arith}
 use lib.ListN.{length, take, get_or}
 use lib.Seq.{take_all}
 use lib.Dec.{leb}
 use borrow.Author.Tests.{leb-true, leb-false}
-use Rattle.scan.specs.Ascii.{ascii}
 use Rattle.utf8.specs.Utf8.{readable}
 use Rattle.std.specs.Char.{is_ascii_graphic}
-use Rattle.text_dump_header.specs.Detect.{contains, is_table, detect}
+use Rattle.text_dump_header.specs.Detect.{has_mark, is_table, detect}
 
 -- the first 128 bytes, or as many as there are
 pub first_bytes : (s : List ℕ) (n : ℕ) → n ≡ min (length s) 128 → take n s ≡ take 128 s
@@ -35,7 +34,19 @@ module _ (s h : List ℕ) (q : h ≡ take 128 s) where
       go [] z = refl
       go (b ∷ h) z = absurd (omega arith)
 
-  pub marks : (a b c d e : Bool) → a ≡ is_ascii_graphic (get_or h 0 0) → b ≡ readable h → c ≡ contains h (ascii "BGP table")
-      → d ≡ contains h (ascii "Next Hop") → e ≡ contains h (ascii "Status codes:") → (a && b && (c || d || e)) ≡ detect s
-  unfolding detect
-  marks a b c d e qa qb qc qd qe = rw (← q, qa, qb, qc, qd, qe)
+  module _ (a : Bool) (qa : a ≡ is_ascii_graphic (get_or h 0 0)) where
+    pub no_graphic : a ≡ false → false ≡ detect s
+    unfolding detect
+    no_graphic e = rw (← q, ← qa, e)
+
+    module _ (e : a ≡ true) (b : Bool) (qb : b ≡ readable h) where
+      pub no_text : b ≡ false → b ≡ detect s
+      unfolding detect
+      no_text f = f ∙ rw (← q, ← qa, e, ← qb, f)
+
+      pub marked : b ≡ true → (c : Bool) → c ≡ has_mark h → c ≡ detect s
+      unfolding detect
+      marked f c qc = rw (← q, ← qa, e, ← qb, f, ← qc)
+
+-- what detection uses
+pub ruleset detect_laws = (no_bytes, no_graphic, no_text, marked)

@@ -2,7 +2,7 @@
 #![tactic(auto)]
 
 ghost use Rattle.std.specs.Prelude.{◌≡◌, Some, None, MatchOption, take};
-ghost use Rattle.text_dump_header.specs.Detect.{contains as containsOf, detect};
+ghost use Rattle.text_dump_header.specs.Detect.{contains as containsOf, has_mark, detect};
 ghost use Rattle.text_dump_header.specs.Preamble.{before, behind, marked, version_text, router_in, router_text, local_as_text, preamble_line};
 ghost use Rattle.text_dump_header.specs.Header.{header_of, header};
 
@@ -24,16 +24,22 @@ fn contains(s: &[u8], p: &[u8]) -> bool
     scan::find(s, p).is_some()
 }
 
+// Whether one of the texts stands there by which a table is known.
+fn has_mark(s: &[u8]) -> bool
+    ensures { result ≡ has_mark s.now }
+{
+    contains(s, b"BGP table") || contains(s, b"Next Hop") || contains(s, b"Status codes:")
+}
+
+#[tactic(auto, using(crate::proofs::DetectLaws::detect_laws))]
 pub fn detect_text_dump(bytes: &[u8]) -> bool
     ensures { result ≡ detect bytes.now }
 {
     let s = head(bytes);
-    let [first, ..] = s else {
-        return false;
-    };
-    first.is_ascii_graphic()
-        & utf8::is_readable(s)
-        & (contains(s, b"BGP table") | contains(s, b"Next Hop") | contains(s, b"Status codes:"))
+    match s {
+        [first, ..] if first.is_ascii_graphic() => utf8::is_readable(s) && has_mark(s),
+        _ => false,
+    }
 }
 
 // What stands before the first p.
@@ -45,7 +51,7 @@ fn before<'a>(s: &'a [u8], p: &[u8]) -> Option<&'a [u8]>
     Some(&s[..k])
 }
 
-// What stands behind the first p.
+// What stands after the first p.
 #[tactic(auto, using(crate::proofs::PreambleLaws::behind_laws))]
 fn behind<'a>(s: &'a [u8], p: &[u8]) -> Option<&'a [u8]>
     ensures { MatchOption result (behind p.now s.now ≡ None) (λ x. behind p.now s.now ≡ Some x.now) }
@@ -54,7 +60,7 @@ fn behind<'a>(s: &'a [u8], p: &[u8]) -> Option<&'a [u8]>
     Some(&s[k + p.len()..])
 }
 
-// The text behind the first mark, up to a second one.
+// The text after the first mark, up to a second one.
 #[tactic(auto, using(crate::proofs::PreambleLaws::marked_laws))]
 fn marked<'a>(s: &'a [u8], mark: &[u8]) -> Option<&'a [u8]>
     ensures { MatchOption result (marked mark.now s.now ≡ None) (λ x. marked mark.now s.now ≡ Some x.now) }
@@ -95,6 +101,7 @@ fn local_as_text(t: &[u8]) -> Option<&[u8]>
     }
 }
 
+// Stays apart from TextDumpHeader: no columns are known yet, and there their lack is an answer.
 #[derive(Debug, Clone, Copy, PartialEq, Eq)]
 pub struct Preamble {
     pub table_version: Option<u64>,

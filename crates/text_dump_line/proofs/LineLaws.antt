@@ -54,7 +54,8 @@ module _ (t : List ℕ) (a b : ℕ) where
   unfolding slice
   slice_missing e = rw e
 
--- an ASCII line has a slice between any two of its places, so that of its columns only the order is tested
+-- an ASCII line has a slice between any two of its places, so that of its columns only the order is
+-- tested
 rising_order : (c : Columns) → are_rising c ≡ true → (c.next_hop < c.metric) × (c.metric < c.local_pref) × (c.local_pref < c.weight) × (c.weight < c.path)
 rising_order c e =
     let x = both (ltb c.next_hop c.metric && ltb c.metric c.local_pref && ltb c.local_pref c.weight) (ltb c.weight c.path) e in

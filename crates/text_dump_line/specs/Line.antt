@@ -23,7 +23,8 @@ use Rattle.text_dump_line.specs.declared.Line.TheVariants.{Unreadable, Passed, W
 unfoldable pub slice : ℕ → ℕ → List ℕ → List ℕ
 slice a b t = cond (has_slice t a b) (take (b - a) (drop a t)) []
 
--- a column's text; no text reads as no address, no number and no prefix, as 01 says of a slice that is missing
+-- a column's text; no text reads as no address, no number and no prefix, as 01 says of a slice that
+-- is missing
 unfoldable pub column : ℕ → ℕ → List ℕ → List ℕ
 column a b t = trim (slice a b t)
 
@@ -53,7 +54,8 @@ entry_of c hop t =
       origin = origin_of (drop (path_start c.path t) t);
     }
 
--- the part of a line between the places that its route carries: of the line as it was read, before its end was trimmed
+-- the part of a line between the places that its route carries: of the line as it was read, before
+-- its end was trimmed
 abbrev pub path_of : RouteEntry → List ℕ → List ℕ
 path_of e s = take (e.path_end - e.path_start) (drop e.path_start s)
 
@@ -90,6 +92,7 @@ line_as None None = Passed
 abbrev pub line_from : Columns → List ℕ → Line
 line_from c t = line_as (any_route c t) (wrapped_of c.next_hop t)
 
--- the end is trimmed; an empty line has no slice that trims to an address or a prefix, and is passed over
+-- the end is trimmed; an empty line has no slice that trims to an address or a prefix, and is
+-- passed over
 unfoldable pub line_of : Columns → List ℕ → Line
 line_of c s = cond (readable s) (line_from c (trim_end s)) Unreadable

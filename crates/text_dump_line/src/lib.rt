@@ -136,6 +136,8 @@ impl<'a> Row<'a> {
         fields::read_address(self.slice(self.columns.next_hop, self.columns.metric))
     }
 
+    // Inlined, so that no number is copied.
+    #[inline(always)]
     #[tactic(auto, using(crate::proofs::LineLaws::number_read))]
     fn number(self, a: usize, b: usize) -> Option<u32>
         requires { self.is_whole ≡ true → has_slice self.text.now a b ≡ true }
@@ -164,19 +166,14 @@ impl<'a> Row<'a> {
         }
     }
 
-    // One place calls `number`, so that the compiler joins it in and copies no number in between:
-    // the metric is read first, and handed on when the local preference is read.
+    #[inline(always)]
     #[tactic(auto, using(crate::proofs::LineLaws::entry_laws))]
     fn entry(self, next_hop: IpAddr) -> RouteEntry
         ensures { result ≡ entry_of self.entry.columns next_hop self.entry.text.now }
     {
         let c = self.columns;
-        let mut metric = None;
-        let mut local_pref = None;
-        for (a, b) in [(c.metric, c.local_pref), (c.local_pref, c.weight)] {
-            metric = local_pref;
-            local_pref = self.number(a, b);
-        }
+        let metric = self.number(c.metric, c.local_pref);
+        let local_pref = self.number(c.local_pref, c.weight);
         let path_start = self.path_start();
         let origin = path_text::origin_of(&self.text[path_start..]);
         RouteEntry {
@@ -189,6 +186,7 @@ impl<'a> Row<'a> {
         }
     }
 
+    #[inline(always)]
     #[tactic(auto, using(crate::proofs::LineLaws::route_laws), unfolding(crate::specs::Line::route_of))]
     fn route(self) -> Option<(PrefixText, RouteEntry)>
         ensures { result ≡ route_of self.entry.columns self.entry.text.now }
@@ -204,29 +202,21 @@ impl<'a> Row<'a> {
     }
 }
 
-// By the columns, else by those shifted. One place calls, so that the compiler joins the two
-// functions and copies no route in between.
+// By the columns, else by those shifted. The calls are inlined, so that no route is copied.
 #[tactic(auto, unfolding(crate::specs::Line::any_route))]
 fn any_route(ascii: bool, t: &[u8], c: Columns) -> Option<(PrefixText, RouteEntry)>
     requires { ascii ≡ true → all is_one t.now ≡ true }
     ensures { result ≡ any_route c t.now }
 {
-    for is_shifted in [false, true] {
-        let tried = if is_shifted {
-            // Stays let .. else, as in Row::route.
-            let Some(shifted) = columns::shift_columns_left(c) else {
-                return None;
-            };
-            shifted
-        } else {
-            c
-        };
-        let route = Row::new(ascii, t, tried).route();
-        if route.is_some() {
-            return route;
-        }
+    let route = Row::new(ascii, t, c).route();
+    if route.is_some() {
+        return route;
     }
-    None
+    // Stays let .. else, as in Row::route.
+    let Some(shifted) = columns::shift_columns_left(c) else {
+        return None;
+    };
+    Row::new(ascii, t, shifted).route()
 }
 
 // Not known to be ASCII, here and in the next function: the slices are tested.

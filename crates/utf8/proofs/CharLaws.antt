@@ -149,7 +149,8 @@ first_below m false false true t₄ h = simp (le-leb 3 m h, and-false)
 first_below m false false false true h = simp (le-leb 4 m h, and-false)
 first_below m false false false false h = simp and-false
 
--- where the text is cut behind its first character, or behind one byte that begins none, that is still the first
+-- where the text is cut behind its first character, or behind one byte that begins none, that is
+-- still the first
 pub char_cut : (a : ℕ) (q w : List ℕ) → char_len ((a ∷ q) ++ w) ≤ length (a ∷ q) → char_len (a ∷ q) ≡ char_len ((a ∷ q) ++ w)
 unfolding char_len first
 char_cut a [] w h = simp and-false (first_below 1 (is_one a) (is_two a (get_or w 0 0)) (is_three a (get_or w 0 0) (get_or w 1 0)) (is_four a (get_or w 0 0) (get_or w 1 0) (get_or w 2 0)) h)

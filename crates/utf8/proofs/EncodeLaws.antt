@@ -39,7 +39,8 @@ two a b h =
     let eb : 0x80 + u % 64 ≡ b = omega arith in
     (simp (lt-leb u 0x7F (omega arith), le-leb u 0x7FF (omega arith), ea, eb), low_scalar u (omega arith))
 
--- one alternative of UTF8-3, or of UTF8-4 in front of its last byte: what it says of the second byte and the tail behind it
+-- one alternative of UTF8-3, or of UTF8-4 in front of its last byte: what it says of the second
+-- byte and the tail behind it
 record Alternative (p : Bool) (lo hi b c : ℕ) : Type 0 where
   first : p ≡ true
   second : (lo ≤ b) × (b ≤ hi)
@@ -313,7 +314,8 @@ scalar_encodes c e =
     range : (c ≤ 0xD7FF) ⊎ (0xE000 ≤ c)
     range = ⊎_elim (λ x. inl (in_range 0 0xD7FF c x).1) (λ x. inr (in_range 0xE000 0x10FFFF c x).0) s
 
--- the encodings of scalar values are readable, their characters are the single encodings, and the code points are got back
+-- the encodings of scalar values are readable, their characters are the single encodings, and the
+-- code points are got back
 pub encode_chars : (cs : List ℕ) → all is_scalar cs ≡ true → chars (encode_all cs) ≡ map encode cs
 unfolding all flatten chars_from
 encode_chars [] h = refl

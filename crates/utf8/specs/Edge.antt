@@ -2,7 +2,8 @@
 use Rattle.std.specs.Prelude.{ℕ, List, Bool, not, ◌&&◌, ◌||◌, length, get_or, leb, ltb, eqb}
 use Rattle.utf8.specs.Utf8.{is_tail}
 
--- a character edge: the text's start, its end, or a place between where no UTF8-tail stands (std's is_char_boundary)
+-- a character edge: the text's start, its end, or a place between where no UTF8-tail stands (std's
+-- is_char_boundary)
 unfoldable pub is_edge : List ℕ → ℕ → Bool
 is_edge s at = eqb at 0 || eqb at (length s) || ltb at (length s) && not (is_tail (get_or s at 0))
 

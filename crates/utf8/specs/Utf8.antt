@@ -20,7 +20,8 @@ is_tail b = within 0x80 0xBF b
 abbrev pub is_two : ℕ → ℕ → Bool
 is_two a b = within 0xC2 0xDF a && is_tail b
 
--- UTF8-3 = %xE0 %xA0-BF UTF8-tail / %xE1-EC 2( UTF8-tail ) / %xED %x80-9F UTF8-tail / %xEE-EF 2( UTF8-tail )
+-- UTF8-3 = %xE0 %xA0-BF UTF8-tail / %xE1-EC 2( UTF8-tail ) / %xED %x80-9F UTF8-tail / %xEE-EF 2(
+-- UTF8-tail )
 abbrev pub is_three : ℕ → ℕ → ℕ → Bool
 is_three a b c =
     eqb a 0xE0 && within 0xA0 0xBF b && is_tail c
@@ -35,7 +36,8 @@ is_four a b c d =
     || within 0xF1 0xF3 a && is_tail b && is_tail c && is_tail d
     || eqb a 0xF4 && within 0x80 0x8F b && is_tail c && is_tail d
 
--- UTF8-char = UTF8-1 / UTF8-2 / UTF8-3 / UTF8-4: how many bytes the one at the front of s has; 0 where there is none
+-- UTF8-char = UTF8-1 / UTF8-2 / UTF8-3 / UTF8-4: how many bytes the one at the front of s has; 0
+-- where there is none
 unfoldable pub char_len : List ℕ → ℕ
 char_len [] = 0
 char_len (a ∷ s) =
@@ -48,7 +50,8 @@ char_len (a ∷ s) =
 abbrev pub piece_len : List ℕ → ℕ
 piece_len s = max 1 (char_len s)
 
--- the characters that begin at the place n or behind it, each its bytes; a byte that begins none stands alone
+-- the characters that begin at the place n or behind it, each its bytes; a byte that begins none
+-- stands alone
 unfoldable pub chars_from : ℕ → List ℕ → List (List ℕ)
 chars_from n [] = []
 chars_from zero (b ∷ s) = let l = chars_from (piece_len (b ∷ s) - 1) s in take (piece_len (b ∷ s)) (b ∷ s) ∷ l
