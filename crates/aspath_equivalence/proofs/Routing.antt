@@ -13,6 +13,7 @@ use Rattle.aspath_normal.specs.declared.LentPath.{LentPath}
 use Rattle.aspath_normal.specs.Normal.{dedup_coalesce}
 use Rattle.aspath_normal.specs.Layout.{in_place, after, counts_of, counts}
 use Rattle.aspath_normal.specs.Lent.{path_lent, LeftAs}
+use Rattle.aspath_normal.proofs.Answers.{read_path}
 use Rattle.aspath_normal.proofs.Normal.{normal_sorted}
 use Rattle.aspath_equivalence.specs.Routing.{same_numbers, equivalent, both, equivalence}
 use Rattle.aspath_equivalence.specs.declared.Equivalence.{Equivalence}
@@ -75,7 +76,7 @@ module _ (P Q : Option (List Segment)) (s : Spoilt) (e : Err s ≡ counts dedup_
       rw same f
 
 -- for the refusals of both
-pub ruleset refusals = (second_refused, first_refused)
+pub ruleset refusals = (second_refused, read_path, first_refused)
 
 -- no record is spoilt: each list is as `dedup_coalesce` left it
 pub both_left : (P Q : Option (List Segment)) (q : List Segment) → Some q ≡ Q → (old new : LentPath)

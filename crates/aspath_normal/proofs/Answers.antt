@@ -12,6 +12,10 @@ use lib.Seq.{length-take-le}
 use Rattle.aspath.specs.Lists.{sum}
 use Rattle.aspath.specs.Record.{Segment, spoilt, cut, segments_of, path, kinds_of, lengths_of, numbers_of}
 use Rattle.aspath.proofs.Record.{path_kinds, path_lengths, path_numbers, unspoilt_path, unspoilt_record}
+use Rattle.aspath.specs.declared.PathRecord.{PathRecord}
+use Rattle.aspath.specs.Segments.{path_of}
+use Rattle.aspath_normal.specs.declared.LentPath.{LentPath}
+use Rattle.aspath_normal.specs.Lent.{path_lent, Reads}
 use Rattle.aspath_normal.specs.Normal.{coalesce, dedup_coalesce}
 use Rattle.aspath_normal.specs.Layout.{after, counts}
 use Rattle.aspath_normal.specs.Entries.{entry, coalesced_entries, Coalesced}
@@ -23,6 +27,10 @@ use Rattle.aspath_normal.proofs.Calls.{coalesce_numbers, coalesced_entries_lem}
 
 abbrev counted : ℕ → ℕ → Counts
 counted s n = record { segments = s; numbers = n }
+
+-- a record and the lent one that it reads stand for the same path
+pub read_path : (r : PathRecord) (l : LentPath) → Reads l r → path_of r ≡ path_lent l
+read_path r l e = rw (e.kinds, e.lengths, e.numbers, e.segments, e.count)
 
 module _ (ks ls ns : List ℕ) (s n : ℕ) where
   -- a spoilt record

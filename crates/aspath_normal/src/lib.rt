@@ -5,10 +5,9 @@ ghost use Rattle.std.specs.Prelude.{◌≡◌, ◌+◌, ◌≤◌, ◌<◌, ◌^
 ghost use Rattle.sort.specs.Dedup.{dedup};
 ghost use Rattle.aspath.specs.Lists.{sum};
 ghost use Rattle.aspath.specs.Record.{cut, path, kinds_of, lengths_of, numbers_of};
-ghost use Rattle.aspath.specs.Segments.{path_of};
 ghost use Rattle.aspath_normal.specs.Normal.{is_sequence, single_kind, sort_set, coalesce, dedup_coalesce};
 ghost use Rattle.aspath_normal.specs.Layout.{padded, after, counts};
-ghost use Rattle.aspath_normal.specs.Lent.{path_lent, LeftAs};
+ghost use Rattle.aspath_normal.specs.Lent.{path_lent, Reads, LeftAs};
 ghost use Rattle.aspath_normal.specs.Parts.{FirstKept, kept_from, Deduped};
 ghost use Rattle.aspath_normal.specs.Whole.{Fit, NormalIn};
 ghost use Rattle.aspath_normal.specs.Entries.{Coalesced, merge_entries, entries};
@@ -35,7 +34,7 @@ pub struct LentPath<'a> {
 impl<'a> LentPath<'a> {
     // The record to read.
     pub fn record(&self) -> PathRecord<'_>
-        ensures { path_of result ≡ path_lent self.now }
+        ensures { Reads self.now result }
     {
         PathRecord {
             kinds: self.kinds,

@@ -1,12 +1,13 @@
 use mathlib.Core.Path.{◌∙◌}
+use Rattle.aspath_normal.proofs.Answers.{read_path}
 use Rattle.aspath_equivalence.proofs.Routing.{second_spoilt, second_spoilt_itself, refused_none, first_spoilt, first_spoilt_itself, both_left, counted, parts_left, answered}
 use Rattle.aspath_equivalence.proofs.has_equivalent_routing.Goals as goal
 
 pub returns-in_err-check-clause-lists : goal.returns-in_err-check-clause-lists
-returns-in_err-check-clause-lists c = second_spoilt _ _ _ c.in_err-check.ensures c.record.ensures _
+returns-in_err-check-clause-lists c = second_spoilt _ _ _ c.in_err-check.ensures (read_path _ _ c.record.ensures) _
 
 pub returns-in_err-check-clause-lists2 : goal.returns-in_err-check-clause-lists2
-returns-in_err-check-clause-lists2 c = second_spoilt_itself _ _ _ c.in_err-check.ensures c.record.ensures _
+returns-in_err-check-clause-lists2 c = second_spoilt_itself _ _ _ c.in_err-check.ensures (read_path _ _ c.record.ensures) _
 
 pub returns-in_err-first-clause-lists : goal.returns-in_err-first-clause-lists
 returns-in_err-first-clause-lists c = let e = c.in_err-first.ensures in first_spoilt_itself _ _ _ e.value _ _ e.lists
@@ -18,7 +19,7 @@ returns-in_err-first-clause-lists2 c = first_spoilt _ _ _ c.in_err-first.ensures
 pub returns-in_err-second : goal.returns-in_err-second
 returns-in_err-second c =
     let n = refused_none _ _ c.in_err-second.ensures.value in
-    let e = c.in_ok-check.ensures ∙ c.record.ensures in
+    let e = c.in_ok-check.ensures ∙ read_path _ _ c.record.ensures in
     absurd (cc)
 
 pub new-form-requires : goal.new-form-requires

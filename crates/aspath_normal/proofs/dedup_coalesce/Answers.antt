@@ -1,10 +1,10 @@
 use mathlib.Core.Path.{refl, ◌∙◌}
-use Rattle.aspath_normal.proofs.Answers.{normal_counts, normal_kinds, normal_lengths, normal_numbers}
+use Rattle.aspath_normal.proofs.Answers.{read_path, normal_counts, normal_kinds, normal_lengths, normal_numbers}
 use Rattle.aspath_normal.proofs.dedup_coalesce.Goals as goal
 
 pub returns : goal.returns
 returns c =
-    let e = c.in_ok-check.ensures ∙ c.record.ensures in
+    let e = c.in_ok-check.ensures ∙ read_path _ _ c.record.ensures in
     let d = c.normalise.ensures in
     record {
       value = normal_counts _ _ _ _ _ _ e _ _ _ _ _ d;
