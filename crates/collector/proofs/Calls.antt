@@ -2,14 +2,14 @@
 use Rattle.std.specs.Prelude.{is_some, Option, Some, None, Result, Ok, Err}
 use mathlib.Core.Path.{◌≡◌, refl, sym, ap, ◌∙◌}
 use mathlib.Core.Logic.{◌⊎◌, inl, inr}
-use mathlib.Core.Bool.{Bool, true, false, not, cond, ◌||◌}
+use mathlib.Core.Bool.{Bool, true, false, not, cond, ◌&&◌, ◌||◌}
 use mathlib.Core.List.{List, [], ◌∷◌, ◌++◌}
 use Prim.Native.Nat.{ℕ, ◌-◌, ◌≤◌, ◌<◌}
 use native.Mathlib.Omega.{arith}
 use lib.ListN.{length, get_or, take, drop}
-use lib.Dec.{ltb}
+use lib.Dec.{leb, ltb}
 use lib.Ieee.{Float}
-use borrow.Author.Tests.{not-true, not-false, lt-ltb, le-ltb}
+use borrow.Author.Tests.{not-true, not-false, le-leb, lt-ltb, le-ltb}
 use mir.Syntax.{w8}
 use mir.Val.{Fits}
 use Rattle.output.specs.Output.{front}
@@ -56,13 +56,16 @@ module _ (s : List ℕ) where
   unfolding turn_left
   turn_short h = rw (lt-ltb (length s) 128 h)
 
-  module _ (room : 128 ≤ length s) (r : Bool) (is : r ≡ is_some (state_in s)) where
+  module _ (room : 128 ≤ length s) (r : Bool) (told : r ≡ leb 128 (length s) && is_some (state_in s)) where
+    tested : r ≡ is_some (state_in s)
+    tested = rw (le-leb 128 (length s) room) at told
+
     past_turn : turns_in s (state_in s) ≡ turn_left s
     unfolding turn_left
     past_turn = rw (le-ltb (length s) 128 room)
 
     pub turn_no_state : not r ≡ true → (5, s) ≡ turn_left s
-    turn_no_state h = go (state_in s) (sym is ∙ not-true r h) ∙ past_turn
+    turn_no_state h = go (state_in s) (sym tested ∙ not-true r h) ∙ past_turn
       where
         go : (o : Option State) → is_some o ≡ false → (5, s) ≡ turns_in s o
         go (Some σ) e = let z : ◌≡◌ {A = ℕ} 0 1 = cc in absurd (omega arith)
@@ -70,7 +73,7 @@ module _ (s : List ℕ) where
 
     pub turn_state : not r ≡ false → ((i : ℕ) → Fits w8 (get_or s i 0)) → (new : List ℕ) → new ≡ front (bytes_of (0 ∷ [])) (take (length s - 120) (drop 120 s))
         → (0, take 120 s ++ (new ++ drop (length s - 120) (drop 120 s))) ≡ turn_left s
-    turn_state h known new f = go (state_in s) refl (sym is ∙ not-false r h) ∙ past_turn
+    turn_state h known new f = go (state_in s) refl (sym tested ∙ not-false r h) ∙ past_turn
       where
         go : (o : Option State) → state_in s ≡ o → is_some o ≡ true → (0, take 120 s ++ (new ++ drop (length s - 120) (drop 120 s))) ≡ turns_in s o
         go (Some σ) here e = ap (λ (l : List ℕ). (0, l)) (turned_bytes s room known σ here new f)
@@ -96,7 +99,10 @@ module _ (s part a e : List ℕ) where
   next_short (inr h) = rw (le-ltb (length s) 128 h.0, lt-ltb (length e) 176 h.1)
 
   module _ (room : 128 ≤ length s) where
-    module _ (room-too : 176 ≤ length e) (r : Option State) (is : r ≡ state_but_time (words_in 16 s)) where
+    module _ (room-too : 176 ≤ length e) (r : Option State) (got : r ≡ cond (leb 128 (length s)) (state_but_time (words_in 16 s)) None) where
+      is : r ≡ state_but_time (words_in 16 s)
+      is = rw (le-leb 128 (length s) room) at got
+
       past_short : next_in s a e part (state_in s) ≡ next_left s part a e
       unfolding next_left
       past_short = rw (le-ltb (length s) 128 room, le-ltb (length e) 176 room-too)

@@ -3,7 +3,7 @@
 // Stays numbers, what the calls answer: the C interface has no enums of ours (docs/LAYOUT.md).
 #![tactic(auto)]
 
-ghost use Rattle.std.specs.Prelude.{is_some, ◌≡◌, cond, ◌++◌, ◌≤◌, length, take, drop};
+ghost use Rattle.std.specs.Prelude.{is_some, ◌≡◌, cond, ◌&&◌, ◌++◌, ◌≤◌, None, length, leb, take, drop};
 ghost use Rattle.output.specs.Output.{front};
 ghost use Rattle.text_dump_header.specs.Header.{header};
 ghost use Rattle.text_dump_header.specs.Detect.{detect};
@@ -28,22 +28,20 @@ const POSITION: usize = 120;
 
 #[tactic(auto, unfolding(crate::specs::Bytes::state_in))]
 fn holds_state(state: &[u8]) -> bool
-    requires { 128 ≤ length state.now }
-    ensures { result ≡ is_some (state_in state.now) }
+    ensures { result ≡ leb 128 (length state.now) && is_some (state_in state.now) }
 {
-    let mut words = [0; 16];
-    little::get_words(state, &mut words);
-    codec::is_state(&words)
+    match little::get_words(state) {
+        Some(words) => codec::is_state(&words),
+        None => false,
+    }
 }
 
 // With any bits as its timestamp: they are left to next, which refuses a state whose timestamp is
 // none, as it refuses bytes that spell no state.
 fn get_state(state: &[u8]) -> Option<State>
-    requires { 128 ≤ length state.now }
-    ensures { result ≡ state_but_time (words_in 16 state.now) }
+    ensures { result ≡ cond (leb 128 (length state.now)) (state_but_time (words_in 16 state.now)) None }
 {
-    let mut words = [0; 16];
-    little::get_words(state, &mut words);
+    let words = little::get_words(state)?;
     codec::state_but_time(&words)
 }
 
