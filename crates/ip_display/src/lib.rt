@@ -14,7 +14,7 @@ fn hex_byte(d: u16) -> u8
     requires { d < 16 }
     ensures { result ≡ hex_byte d }
 {
-    if d < 10 { 48 + d as u8 } else { 87 + d as u8 }
+    if d < 10 { b'0' + d as u8 } else { b'a' - 10 + d as u8 }
 }
 
 // A group's four digits without the zeros in front.
@@ -52,10 +52,11 @@ fn write_before_dot(o: u8, w: &mut Writer)
 pub fn write_ipv4(n: u32, w: &mut Writer)
     ensures { Writes (dotted n) w.old w.new }
 {
-    write_before_dot((n / 16777216 % 256) as u8, w);
-    write_before_dot((n / 65536 % 256) as u8, w);
-    write_before_dot((n / 256 % 256) as u8, w);
-    write_octet((n % 256) as u8, w);
+    let [a, b, c, d] = n.to_be_bytes();
+    write_before_dot(a, w);
+    write_before_dot(b, w);
+    write_before_dot(c, w);
+    write_octet(d, w);
 }
 
 // The groups of g with ':' between them.
@@ -72,7 +73,7 @@ fn write_groups(g: &[u16], w: &mut Writer)
     }
 }
 
-// The zero groups at the front of g and what follows, of which n begin the rest.
+// How many zero groups a list begins with, if its first group is g and the rest begins with n.
 #[tactic(auto, using(crate::proofs::Writing::counted_one, crate::proofs::Writing::counted_none))]
 fn counted_with(g: u16, n: usize) -> usize
     requires { n ≤ 8 }
@@ -87,7 +88,7 @@ struct Run {
     len: usize,
 }
 
-// The first longest run of zero groups, looked for from behind.
+// The longest run of zero groups, and the first of those as long. It is looked for from the end.
 fn longest_run(g: [u16; 8]) -> Run
     ensures { (result.start ≡ first_run (longest g) g) × (result.len ≡ longest g) × (result.start + result.len ≤ 8) }
 {
@@ -108,38 +109,36 @@ fn groups(u: u64, l: u64) -> [u16; 8]
     ensures { result ≡ groups_of u l }
 {
     [
-        (u / 281474976710656) as u16,
-        (u / 4294967296 % 65536) as u16,
-        (u / 65536 % 65536) as u16,
-        (u % 65536) as u16,
-        (l / 281474976710656) as u16,
-        (l / 4294967296 % 65536) as u16,
-        (l / 65536 % 65536) as u16,
-        (l % 65536) as u16,
+        (u >> 48) as u16,
+        (u >> 32 & 0xffff) as u16,
+        (u >> 16 & 0xffff) as u16,
+        (u & 0xffff) as u16,
+        (l >> 48) as u16,
+        (l >> 32 & 0xffff) as u16,
+        (l >> 16 & 0xffff) as u16,
+        (l & 0xffff) as u16,
     ]
 }
 
 fn write_plain(g: [u16; 8], w: &mut Writer)
     ensures { Writes (plain g) w.old w.new }
 {
-    let run = longest_run(g);
-    let k = run.start;
-    let n = run.len;
-    let alone = n < 2;
+    let Run { start, len } = longest_run(g);
+    let alone = len < 2;
     if alone {
         return write_groups(&g, w);
     }
-    write_groups(&g[..k], w);
+    write_groups(&g[..start], w);
     w.bytes(b"::");
-    write_groups(&g[k + n..], w);
+    write_groups(&g[start + len..], w);
 }
 
 pub fn write_ipv6(u: u64, l: u64, w: &mut Writer)
     ensures { Writes (ipv6_text u l) w.old w.new }
 {
-    if (u == 0) & (l / 4294967296 == 65535) {
+    if (u == 0) & (l >> 32 == 0xffff) {
         w.bytes(b"::ffff:");
-        return write_ipv4((l % 4294967296) as u32, w);
+        return write_ipv4((l & 0xffff_ffff) as u32, w);
     }
     write_plain(groups(u, l), w);
 }

@@ -9,8 +9,8 @@ ghost use Rattle.network_display.specs.Text.{address_text, prefix_text};
 use network::{IpAddr, NetworkPrefix};
 use output::{PutError, Writer};
 
-// Stays writers and no Display: 01's calls print into a lent list, and refuse where it is too
-// short; a Display beside them would be a second printer, which nothing here would use.
+// Stays writers and no Display: that could stand in network alone, below all that prints, and it
+// writes a str, so that each text would have to be proved UTF-8 besides. The calls put bytes.
 #[tactic(auto, unfolding(crate::specs::Text::address_text))]
 #[inline(always)]
 pub fn write_address(a: IpAddr, w: &mut Writer)
