@@ -6,6 +6,7 @@ use Rattle.decimal.specs.Decimal.{leading}
 use Rattle.network.specs.declared.NetworkPrefix.{NetworkPrefix}
 use Rattle.elem.specs.Element.{spoilt as spoiltElement}
 use Rattle.elem.specs.declared.Element.{Element}
+use Rattle.psv.specs.declared.Attributes.{Attributes}
 use Rattle.psv.specs.Line.{psv_text, front_text, between_text, sequence_text, asn_text, texts_line}
 use Rattle.psv.specs.declared.ElementError.{ElementError}
 use Rattle.psv.specs.declared.ElementError.TheVariants.{Spoilt, TooShort}
@@ -96,14 +97,14 @@ IsPlain path (Some (last, end)) = Spells path last end
 IsPlain path None = Unit {0}
 
 -- texts_line (psv: specs/Line.antt) of the texts that the path's numbers print as
-abbrev pub copied_text : List ℕ → List ℕ → Element → List ℕ
-copied_text start path e = texts_line start (sequence_text (asns_of path)) (asn_text (origin_asn (asns_of path))) e
+abbrev pub copied_text : List ℕ → List ℕ → Attributes → List ℕ
+copied_text start path a = texts_line start (sequence_text (asns_of path)) (asn_text (origin_asn (asns_of path))) a
 
--- a route's line put together from texts: its start, the path as its numbers print, the last of them, and the attributes of e; where it is not, nothing is written
-abbrev pub Copies : List ℕ → List ℕ → Element → List ℕ → List ℕ → Option ℕ → Type 0
-Copies start path e out new (Some w) =
-    (length (asns_of path) ≤ 16384) × (length (copied_text start path e) ≤ 65536) × Puts (copied_text start path e ++ feed) out new w
-Copies start path e out new None = new ≡ out
+-- a route's line put together from texts: start, the path as its numbers print, the last of them, and the attributes; where it is not, nothing is written
+abbrev pub Copies : List ℕ → List ℕ → Attributes → List ℕ → List ℕ → Option ℕ → Type 0
+Copies start path a out new (Some w) =
+    (length (asns_of path) ≤ 16384) × (length (copied_text start path a) ≤ 65536) × Puts (copied_text start path a ++ feed) out new w
+Copies start path a out new None = new ≡ out
 
 -- a line's text l does what z says: of it are c bytes consumed, and the others are of header lines that have come
 abbrev pub Does : P.Step → List ℕ → List ℕ → List ℕ → Step Phase → Type 0
