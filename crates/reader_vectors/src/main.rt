@@ -32,7 +32,7 @@ fn put_plain(s: &[u8], w: &mut Writer) {
 
 // The listing that s spells, where `%` and two digits are a byte too.
 fn listing<'a>(s: &[u8], out: &'a mut [u8]) -> &'a [u8] {
-    let mut w = Writer { out, at: 0 };
+    let mut w = Writer::new(out);
     let mut pieces = s.split(|b| *b == b'%');
     put_plain(pieces.next().unwrap_or(&[]), &mut w);
     for piece in pieces {
