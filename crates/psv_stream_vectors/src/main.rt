@@ -46,7 +46,7 @@ fn put_part(s: &[u8], w: &mut Writer) {
 }
 
 fn expand(s: &[u8], out: &mut [u8]) -> usize {
-    let mut w = Writer { out, at: 0 };
+    let mut w = Writer::new(out);
     for part in s.split(|b| *b == b',') {
         put_part(part, &mut w);
     }
