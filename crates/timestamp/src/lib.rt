@@ -19,12 +19,14 @@ fn fits(p: u8, b: u8) -> bool
 }
 
 // Whether s begins with the shape.
-#[tactic(auto, using(crate::proofs::Shapes::shape_end, crate::proofs::Shapes::shape_short, crate::proofs::Shapes::shape_other, crate::proofs::Shapes::shape_next))]
 fn has_shape(shape: &[u8], s: &[u8]) -> bool
     ensures { result ≡ has_shape shape.now s.now }
 {
-    for (i, p) in shape.iter().enumerate() {
-        if s.len() <= i || !fits(*p, s[i]) {
+    if s.len() < shape.len() {
+        return false;
+    }
+    for (p, b) in shape.iter().zip(s) {
+        if !fits(*p, *b) {
             return false;
         }
     }
