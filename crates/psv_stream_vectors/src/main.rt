@@ -1,9 +1,9 @@
 // Runs the cases of `psv_stream` (data/cases.txt) and prints a line for each group.
 //
 // A question is the least size of the pieces in which the input comes, the input, and what is to be
-// printed. Both texts are in hexadecimal, in parts with commas between them; after a part, `*` and a
-// number repeat it. Each input comes in pieces of that size, of 3 times and 64 times that size, and
-// whole; of the output, no more is lent at first than a run asks for.
+// printed. Both texts are in hexadecimal, in parts with commas between them; after a part, `*` and
+// a number repeat it. Each input comes in pieces of that size, of 3 times and 64 times that size,
+// and whole; of the output, no more is lent at first than a run asks for.
 #![tactic(auto)]
 
 use cases::{Answer, Program};
