@@ -43,6 +43,14 @@ pub(crate) struct Taken<P> {
     pub(crate) end: End,
 }
 
+// No other line is taken, for this reason.
+#[inline(always)]
+fn ended<P: Copy>(taken: Taken<P>, end: End) -> Taken<P>
+    ensures { result ≡ record { place = taken.place; consumed = taken.consumed; written = taken.written; end = end } }
+{
+    Taken { end, ..taken }
+}
+
 // Takes lines as long as there is a whole one, and room for what it may print. The step answers for
 // the line that is next at a place. In proofs, size says how many of the bytes at hand a place has
 // read before: it makes what is left fall with each line, also where none of it is consumed.
@@ -72,24 +80,11 @@ pub(crate) fn take_lines<P: Copy, F: FnMut(P, &[u8], &mut [u8; LINE]) -> Step<P>
         &mut out[taken.written..],
     ) {
         match answer {
-            Step::Starved => {
-                return Taken {
-                    end: End::Starved,
-                    ..taken
-                };
-            }
-            Step::Leaves => {
-                return Taken {
-                    end: End::Left,
-                    ..taken
-                };
-            }
+            Step::Starved => return ended(taken, End::Starved),
+            Step::Leaves => return ended(taken, End::Left),
             Step::Stops(n) => {
-                return Taken {
-                    written: taken.written + n,
-                    end: End::Stopped,
-                    ..taken
-                };
+                taken.written += n;
+                return ended(taken, End::Stopped);
             }
             Step::Took {
                 consumed,
