@@ -157,11 +157,7 @@ fn fill(start: Groups, m: usize) -> Option<Groups>
 fn whole(r: Groups) -> Option<(u64, u64)>
     ensures { result ≡ whole_of r }
 {
-    if r.n == 8 {
-        Some((r.upper, r.lower))
-    } else {
-        None
-    }
+    (r.n == 8).then_some((r.upper, r.lower))
 }
 
 // Left and right of "::", with the zero groups that it stands for. The right side is read once for
