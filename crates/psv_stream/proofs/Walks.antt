@@ -87,6 +87,14 @@ module _ {F P : Type 0} (g : Mut F (P × (Bor (List ℕ) × (MutBor (List ℕ) �
 
 pub ruleset walk_laws = (inside, within, stops_within)
 
+-- what the head comes to, by why its lines end
+abbrev pub HeadEnds : {P : Type 0} → Phase → List ℕ → Bool → List ℕ → Phase → Taken P → List ℕ → Type 0
+HeadEnds p₀ s ended out₀ p r new =
+    (r.end ≡ end.Full → Heads p₀ s ended out₀ (record { phase = p; consumed = r.consumed; written = r.written; starved = false }) new)
+    × (r.end ≡ end.Left → Heads p₀ s ended out₀ (record { phase = p; consumed = r.consumed; written = r.written; starved = false }) new)
+    × (r.end ≡ end.Starved → Heads p₀ s ended out₀ (record { phase = p; consumed = r.consumed; written = r.written; starved = true }) new)
+    × (r.end ≡ end.Stopped → (t : Ran) → t ≡ record { phase = Stopped; consumed = r.consumed; written = r.written; starved = false } → Heads p₀ s ended out₀ t new)
+
 -- a step that does what Steps says, as long as I holds; π is the phase of a place
 abbrev pub step_by : {P : Type 0} → (P → Phase) → Step P → Step Phase
 step_by π (step.Took d v q) = step.Took d v (π q)
@@ -202,6 +210,9 @@ module _ {F P : Type 0} (g : Mut F (P × (Bor (List ℕ) × (MutBor (List ℕ) �
         go (Some step.Starved) k z = let y : end.Left ≡ end.Starved = sym f ∙ z.0 in cc
         go (Some (step.Stops n)) k z = let y : end.Left ≡ end.Stopped = sym f ∙ z.0 in cc
         go (Some (step.Took d n q)) k z = absurd z
+
+    pub head_ends : HeadEnds (π p₀) s ended out₀ (π r.place) r new
+    head_ends = (head_full, head_left, head_starves, head_stops)
 
     -- in the body
     body_last : (b : Bool) → Came (π p₀) s ended out₀ (π r.place) r.consumed r.written new → (b ≡ true → Starved (drop r.consumed s) (header_bytes (π r.place)) ended) → (b ≡ false → length out₀ - r.written < 65537)
