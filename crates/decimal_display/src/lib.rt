@@ -8,19 +8,15 @@ ghost use Rattle.output.specs.Writing.{Writes};
 
 use output::{PutError, Writer};
 
-// How many digits n has. The powers do not depend on n: the loop unrolls to comparisons.
-#[tactic(auto, using(crate::proofs::Printed::length_pos, crate::proofs::Printed::longest, decimal::proofs::Power::power_fits))]
+// How many digits n has.
+#[tactic(auto, using(crate::proofs::Printed::length_log, crate::proofs::Printed::length_zero))]
 pub fn decimal_len(n: u64) -> usize
     ensures { (result ≡ length (decimal n)) × (result ≤ 20) }
 {
-    let mut power: u64 = 1;
-    for len in 1..20 {
-        power = power * 10;
-        if n < power {
-            return len;
-        }
+    match n.checked_ilog10() {
+        Some(k) => k as usize + 1,
+        None => 1,
     }
-    20
 }
 
 // The last K digits of n, with zeros in front. K is known, so the loop unrolls.
