@@ -31,6 +31,7 @@ fn copy_many<const N: usize>(text: &[u8], out: &mut [u8])
     ensures { out.new ≡ text.now }
 {
     let last = text.len() - N;
+    // Stays by places: both lists are cut at the same ones, and the last step overlaps.
     for i in (0..last).step_by(N) {
         copy_step::<N>(text, out, i);
     }

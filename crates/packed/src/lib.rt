@@ -14,7 +14,7 @@ use text_dump::Remembered;
 use text_dump_line::PrefixText;
 
 // Stays numbers: an enum that holds the prefix is copied in other pieces than it was written
-// in, which stalls the processor (docs/PERFORMANCE.md: -12 %, -9 %).
+// in, which stalls the processor (docs/PERFORMANCE.md: -9 %).
 // The kind: 0 nothing, 1 invalid text, 2 a prefix; then the version of its address, 4 or 6, the
 // address in two halves, and its length.
 #[derive(Clone, Copy)]
