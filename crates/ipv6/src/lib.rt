@@ -131,7 +131,8 @@ fn side(s: &[u8], dotted: bool, start: Groups) -> Option<Groups>
     let mut t = s;
     let mut r = start;
     let mut e = part_end(t, b':');
-    // Stays a while: the last part is read otherwise, so no iterator over the parts fits.
+    // Stays a while: the last part is read otherwise. With it cut off at the last ':', and a for
+    // over `split` of what stands before, the proof did not close in a short try.
     while e < t.len() {
         let g = group(&t[..e])?;
         r = r.push(g)?;
