@@ -25,8 +25,8 @@ fn last_digits<const K: usize>(n: u64) -> [u8; K]
 {
     let mut digits = [b'0'; K];
     let mut y = n;
-    // Stays by places: in a loop over `iter_mut().rev()` no invariant can speak of the digits written,
-    // so the proof did not close.
+    // Stays by places: in a loop over `iter_mut().rev()` no invariant can speak of the digits
+    // written, so the proof did not close.
     for i in (0..K).rev() {
         digits[i] = b'0' + (y % 10) as u8;
         y = y / 10;
