@@ -35,7 +35,8 @@ fn is_letter(b: u8) -> bool
 }
 
 // What a letter tells.
-// Stays by way of its number, with no branch: none would guess which letter comes.
+// Stays by way of its number, with no branch: none would guess which letter comes
+// (docs/PERFORMANCE.md: -4 %, -5 %).
 #[tactic(auto, using(crate::proofs::OriginLaws::letter_byte))]
 fn origin_by(b: u8) -> Origin
     requires { is_known (letter (b ∷ [])) ≡ true }
