@@ -30,10 +30,8 @@ const POSITION: usize = 120;
 fn holds_state(state: &[u8]) -> bool
     ensures { result ≡ leb 128 (length state.now) && is_some (state_in state.now) }
 {
-    match little::get_words(state) {
-        Some(words) => codec::is_state(&words),
-        None => false,
-    }
+    let mut words = [0; 16];
+    little::get_words(state, &mut words) && codec::is_state(&words)
 }
 
 // With any bits as its timestamp: they are left to next, which refuses a state whose timestamp is
@@ -41,7 +39,10 @@ fn holds_state(state: &[u8]) -> bool
 fn get_state(state: &[u8]) -> Option<State>
     ensures { result ≡ cond (leb 128 (length state.now)) (state_but_time (words_in 16 state.now)) None }
 {
-    let words = little::get_words(state)?;
+    let mut words = [0; 16];
+    if !little::get_words(state, &mut words) {
+        return None;
+    }
     codec::state_but_time(&words)
 }
 

@@ -1,7 +1,7 @@
 -- The loops over words. Assumes nothing.
-use Rattle.std.specs.Prelude.{Ok, Err, Some, None}
+use Rattle.std.specs.Prelude.{Ok, Err}
 use mathlib.Core.Path.{◌≡◌, refl, sym, ap, ◌∙◌}
-use mathlib.Core.Bool.{true, false, cond}
+use mathlib.Core.Bool.{true, false}
 use mathlib.Core.List.{List, [], ◌∷◌, ◌++◌, append-nil, append_assoc}
 use Prim.Native.Nat.{ℕ, zero, suc, ◌+◌, ◌*◌, ◌/◌, ◌-◌, ◌^◌, ◌≤◌, ◌<◌}
 use native.Mathlib.Omega.{arith}
@@ -88,13 +88,3 @@ get_turn b w parts i v at h room p e =
     let size : length (take 8 (drop (8 * i) b)) ≡ 8 = simp (length-take, length-drop) (omega arith) in
     let word : v ≡ number (take 8 (drop (8 * i) b)) = e ∙ rw part (read_le (take 8 (drop (8 * i) b)) size) in
     rw (add-one i, take-suc-set w i v h, at, word) (sym (words_more i b))
-
-module _ (b : List ℕ) where
-  pub get_none : (n : ℕ) → length b / 8 < n → None ≡ cond (leb (8 * n) (length b)) (Some (words_in n b)) None
-  get_none n h = rw (lt-leb (8 * n) (length b) (omega arith))
-
-  pub get_all : (w : List ℕ) (n i : ℕ) → length w ≡ n → take i w ≡ words_in i b → i ≡ n → n ≤ length b / 8
-      → Some w ≡ cond (leb (8 * n) (length b)) (Some (words_in n b)) None
-  get_all w n i size at e room =
-      let all : w ≡ words_in n b = sym (take_all n w (omega arith)) ∙ rw e at at in
-      rw (le-leb (8 * n) (length b) (omega arith), ← all)

@@ -1,7 +1,7 @@
 // Words of 64 bits as bytes, the lowest byte first: eight bytes to a word.
 #![tactic(auto)]
 
-ghost use Rattle.std.specs.Prelude.{◌≡◌, cond, ◌*◌, Some, None, length, leb};
+ghost use Rattle.std.specs.Prelude.{◌≡◌, cond, ◌*◌, ◌≤◌, length, leb};
 ghost use Rattle.output.specs.Output.{front, answer};
 ghost use Rattle.little.specs.Little.{bytes_of, words_in};
 
@@ -23,19 +23,20 @@ pub fn put_words(words: &[u64], out: &mut [u8]) -> Result<usize, PutError>
     Ok(8 * words.len())
 }
 
-// The N words at the front of b; None where it has fewer.
-pub fn get_words<const N: usize>(b: &[u8]) -> Option<[u64; N]>
-    ensures { result ≡ cond (leb (8 * N) (length b.now)) (Some (words_in N b.now)) None }
+// The words at the front of b, as many as the list has places; false where b has fewer.
+// Stays a bool beside a list: an array in the answer, which was tried and proved, would ask callers
+// to know the number of words when they are compiled.
+pub fn get_words(b: &[u8], words: &mut [u64]) -> bool
+    ensures value { result ≡ leb (8 * length words.old) (length b.now) }
+    ensures words_after { words.new ≡ cond (leb (8 * length words.old) (length b.now)) (words_in (length words.old) b.now) words.old }
 {
     let (parts, _) = b.as_chunks::<8>();
-    if parts.len() < N {
-        return None;
+    if parts.len() < words.len() {
+        return false;
     }
-    let mut words = [0; N];
-    // Stays by places: after a zip it is not known what was written, and `map` asks that N words
-    // fit in memory, which no N tells; so neither proof closed.
+    // Stays by places: after a zip it is not known what was written, so the proof did not close.
     for (i, word) in words.iter_mut().enumerate() {
         *word = u64::from_le_bytes(parts[i]);
     }
-    Some(words)
+    true
 }
