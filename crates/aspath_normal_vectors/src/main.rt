@@ -80,6 +80,7 @@ fn answer_call<F: Fn(&mut LentPath) -> Result<Counts, Spoilt>>(
 
 // It is lent the numbers shared, for it moves none.
 fn coalesce(lent: &mut LentPath) -> Result<Counts, Spoilt> {
+    // Read before the lists are lent on.
     let segments = lent.segments;
     let count = lent.count;
     let numbers = &mut *lent.numbers;

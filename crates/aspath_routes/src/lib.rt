@@ -67,6 +67,7 @@ fn write_numbers(numbers: &[u32], out: &mut [u32]) -> usize
 }
 
 // The numbers of a path in order; with `dedup`, of equal neighbours in a segment the first.
+// Stays a bool: to_u32_vec_opt is asked for it by one, and only `after` tests it.
 #[derive(Clone, Copy)]
 struct Numbers<'a> {
     dedup: bool,
@@ -98,6 +99,7 @@ impl<'a> Numbers<'a> {
     }
 
     // Writes them to places that suffice.
+    // Stays by places: a zip hides what `iter_mut` has written (aspath_normal, single_sets).
     fn write(self, out: &mut [u32])
         requires { length (numbers_left self) ≤ length out.old }
         ensures { out.new ≡ front (numbers_left self.entry) out.old }

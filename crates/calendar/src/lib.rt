@@ -92,7 +92,7 @@ fn days_before_month(leap: bool, m: u32) -> u64
     DAYS_BEFORE_MONTH[m as usize] + u64::from(leap && 2 < m)
 }
 
-// The days before the date; Nothing where there is no such date.
+// The days before the date; None where there is no such date.
 #[tactic(auto, using(crate::proofs::Years::year_bound, crate::proofs::Months::month_bound))]
 pub fn days_of(date: Date) -> Option<u64>
     ensures { result ≡ days_of date }

@@ -1,5 +1,5 @@
 -- Laws of a case's answer.
-use Rattle.std.proofs.Common.{◌≡◌, ℕ, ◌+◌, ◌-◌, ◌≤◌, ◌==◌, Bool, true, false, not, cond, eqb, nat_lt, Some, None, position, List, [], ◌∷◌, length, take, drop, sym, refl, ◌∙◌, zero-add, arith, length-drop, drop_of_length-le, take_all, ne_eqb}
+use Rattle.std.proofs.Common.{◌≡◌, ℕ, ◌+◌, ◌-◌, ◌≤◌, ◌==◌, Bool, true, false, not, cond, eqb, nat_lt, Some, None, position, List, [], ◌∷◌, length, take, drop, refl, ◌∙◌, zero-add, arith, length-drop, drop_of_length-le, take_all, ne_eqb}
 use Rattle.std.specs.List.{position_or_len}
 use Rattle.std.proofs.lemmas.List.Recursion.{is_position_or_len}
 use Rattle.std.proofs.lemmas.Bool.Decides.{nat_tests}

@@ -113,15 +113,21 @@ module _ (w : List ℕ) where
         unfolding state_but_time
         state_told x e = rw (← is, h, le-leb (get_or w 8 0) 4294967295 fits, ← told, e, time)
 
-  -- the timestamp is tested beside the rest
-  pub state_tested : (t : Option Float) → t ≡ timestamp_of_bits (get_or w 9 0) → (o : Option State) → o ≡ state_but_time w
-      → (p q : Bool) → p ≡ is_some t → q ≡ is_some o → (p && q) ≡ is_some (state_of w)
-  unfolding state_of timestamp_of_bits
-  state_tested t et o eo p q ep eq = rw (ep, eq, et, eo) (go (is_timestamp at))
-    where
-      go : (b : Bool) → (is_some (cond b (Some at) None) && is_some (state_but_time w)) ≡ is_some (cond b (state_but_time w) None)
-      go true = refl
-      go false = refl
+  -- the timestamp is tested before the rest
+  module _ (t : Option Float) (is : t ≡ timestamp_of_bits (get_or w 9 0)) (p : Bool) (test : p ≡ is_some t) where
+    both_tested : (p && is_some (state_but_time w)) ≡ is_some (state_of w)
+    unfolding state_of timestamp_of_bits
+    both_tested = rw (test, is) (go (is_timestamp at))
+      where
+        go : (b : Bool) → (is_some (cond b (Some at) None) && is_some (state_but_time w)) ≡ is_some (cond b (state_but_time w) None)
+        go true = refl
+        go false = refl
+
+    pub timed_tested : p ≡ true → (o : Option State) → o ≡ state_but_time w → (q : Bool) → q ≡ is_some o → q ≡ is_some (state_of w)
+    timed_tested h o e q eq = eq ∙ ap is_some e ∙ rw h at both_tested
+
+    pub untimed_tested : p ≡ false → p ≡ is_some (state_of w)
+    untimed_tested h = h ∙ rw h at both_tested
 
   -- the timestamp of a state but for its time, and what its test leaves
   abbrev time_of : Option State → Float

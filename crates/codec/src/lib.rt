@@ -87,7 +87,8 @@ fn asn_number(asn: Option<Asn>) -> Option<u64>
     asn.map(|a| u64::from(a.0))
 }
 
-// Apart from whether there is one, so that no branch is made of it: none would guess which comes.
+// A match with no None in it, so that it is compiled without a branch: which origin comes can't be
+// predicted.
 fn number_of(origin: Origin) -> u64
     ensures { result ≡ number_of origin }
 {
@@ -207,7 +208,7 @@ fn address_of(w: AddressWords) -> Option<IpAddr>
     if w.kind == 1 {
         return Some(IpAddr::V6(w.upper, w.lower));
     }
-    if (w.kind == 0) & (w.upper == 0) & (w.lower <= 0xffff_ffff) {
+    if w.kind == 0 && w.upper == 0 && w.lower <= 0xffff_ffff {
         return Some(IpAddr::V4(w.lower as u32));
     }
     None
@@ -219,15 +220,10 @@ fn remembered_of(w: RememberedWords) -> Option<Remembered>
 {
     if w.kind == 2 {
         let addr = address_of(w.addr)?;
-        if 255 < w.len {
-            return None;
-        }
-        return Some(Remembered::Valid(NetworkPrefix {
-            addr,
-            len: w.len as u8,
-        }));
+        let len = u8::try_from(w.len).ok()?;
+        return Some(Remembered::Valid(NetworkPrefix { addr, len }));
     }
-    if !((w.addr.kind == 0) & (w.addr.upper == 0) & (w.addr.lower == 0) & (w.len == 0)) {
+    if !(w.addr.kind == 0 && w.addr.upper == 0 && w.addr.lower == 0 && w.len == 0) {
         return None;
     }
     match w.kind {
@@ -250,47 +246,59 @@ fn float_of(bits: u64) -> f64
 pub fn state_but_time(w: &[u64; 16]) -> Option<State>
     ensures { result ≡ state_but_time w.now }
 {
+    let [
+        next_hop,
+        metric,
+        local_pref,
+        weight,
+        path,
+        peer_kind,
+        peer_upper,
+        peer_lower,
+        peer_asn,
+        bits,
+        kind,
+        prefix_kind,
+        prefix_upper,
+        prefix_lower,
+        len,
+        position,
+    ] = *w;
     let peer = AddressWords {
-        kind: w[5],
-        upper: w[6],
-        lower: w[7],
+        kind: peer_kind,
+        upper: peer_upper,
+        lower: peer_lower,
     };
     let peer_ip = address_of(peer)?;
-    if 0xffff_ffff < w[8] {
-        return None;
-    }
-    let timestamp = float_of(w[9]);
-    let memory = RememberedWords {
-        kind: w[10],
-        addr: AddressWords {
-            kind: w[11],
-            upper: w[12],
-            lower: w[13],
-        },
-        len: w[14],
+    let peer_asn = Asn(u32::try_from(peer_asn).ok()?);
+    let timestamp = float_of(bits);
+    let addr = AddressWords {
+        kind: prefix_kind,
+        upper: prefix_upper,
+        lower: prefix_lower,
     };
-    let remembered = remembered_of(memory)?;
+    let remembered = remembered_of(RememberedWords { kind, addr, len })?;
     let columns = Columns {
-        next_hop: w[0] as usize,
-        metric: w[1] as usize,
-        local_pref: w[2] as usize,
-        weight: w[3] as usize,
-        path: w[4] as usize,
+        next_hop: next_hop as usize,
+        metric: metric as usize,
+        local_pref: local_pref as usize,
+        weight: weight as usize,
+        path: path as usize,
     };
     Some(State {
         columns,
         peer_ip,
-        peer_asn: Asn(w[8] as u32),
+        peer_asn,
         timestamp,
         remembered,
-        position: w[15] as usize,
+        position: position as usize,
     })
 }
 
 // Whether the words spell a state.
-#[tactic(auto, using(crate::proofs::Reading::state_tested))]
+#[tactic(auto, using(crate::proofs::Reading::timed_tested, crate::proofs::Reading::untimed_tested))]
 pub fn is_state(w: &[u64; 16]) -> bool
     ensures { result ≡ is_some (state_of w.now) }
 {
-    seconds::timestamp_of_bits(w[9]).is_some() & state_but_time(w).is_some()
+    seconds::timestamp_of_bits(w[9]).is_some() && state_but_time(w).is_some()
 }

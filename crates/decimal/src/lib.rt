@@ -54,16 +54,15 @@ pub fn read_u32(s: &[u8]) -> Option<u32>
     u32::try_from(n).ok()
 }
 
-// What some digits make, and the place behind them.
-// The digits from `at` on, where they are at most nine: none of these numbers is too large, so a
-// text can be read up to where its digits end.
+// What the digits from `at` on make and the place after them, where they are at most nine: none of
+// these numbers is too large, so a text can be read up to where its digits end.
 #[tactic(auto, using(crate::proofs::Leading::run_many))]
 pub fn digits_at(s: &[u8], at: usize) -> Option<(u32, usize)>
     ensures { result ≡ digits_at s.now at }
 {
     let mut v = 0;
-    // Stays a loop over places: with `enumerate().skip(at)` the proof knows no place, and it did not
-    // close.
+    // Stays a loop over places: with `enumerate().skip(at)` the proof knows no place, and it did
+    // not close.
     for i in at..s.len() {
         let b = s[i];
         if !b.is_ascii_digit() {

@@ -14,7 +14,11 @@ fn hex_byte(d: u16) -> u8
     requires { d < 16 }
     ensures { result ≡ hex_byte d }
 {
-    if d < 10 { b'0' + d as u8 } else { b'a' - 10 + d as u8 }
+    if d < 10 {
+        b'0' + d as u8
+    } else {
+        b'a' - 10 + d as u8
+    }
 }
 
 // A group's four digits without the zeros in front.
@@ -95,6 +99,8 @@ fn longest_run(g: [u16; 8]) -> Run
     let mut n: usize = 0;
     let mut len: usize = 0;
     let mut start: usize = 8;
+    // Stays a loop over places: the place is what is looked for, so that a loop over the groups
+    // would count it beside them.
     for i in (0..8).rev() {
         n = counted_with(g[i], n);
         if len <= n {

@@ -18,10 +18,7 @@ fn put_text<F: FnOnce(&mut Writer)>(write: F, out: &mut Answer) -> io::Result<()
     requires { F.IsAlwaysCallable write }
 {
     let mut text = [0; TEXT];
-    let mut w = Writer {
-        out: &mut text,
-        at: 0,
-    };
+    let mut w = Writer::new(&mut text);
     write(&mut w);
     out.write_all(w.text())
 }

@@ -25,24 +25,31 @@ fn digits(s: &[u8], out: &mut [u8]) -> usize {
 
 // How many of each a record has.
 #[derive(Clone, Copy, Default)]
-struct Loaded {
-    kinds: usize,
-    lengths: usize,
-    numbers: usize,
+pub struct Loaded {
+    pub kinds: usize,
+    pub lengths: usize,
+    pub numbers: usize,
 }
 
 // The places that a record is read into; the first of them are the record's.
+// Stays three arrays with their counts: no heap is used, so no Vec.
 #[derive(Drop)]
 pub struct Lists {
-    kinds: [u8; 64],
-    lengths: [u32; 64],
-    numbers: [u32; 256],
-    loaded: Loaded,
+    pub kinds: [u8; 64],
+    pub lengths: [u32; 64],
+    pub numbers: [u32; 256],
+    pub loaded: Loaded,
 }
 
 impl Lists {
+    ghost use Rattle.std.specs.Prelude.{◌≡◌, take};
+
     // The record's kinds, lengths and numbers.
-    pub fn parts(&self) -> (&[u8], &[u32], &[u32]) {
+    pub fn parts(&self) -> (&[u8], &[u32], &[u32])
+        ensures kinds { result.0.now ≡ take self.now.loaded.kinds self.now.kinds }
+        ensures lengths { result.1.now ≡ take self.now.loaded.lengths self.now.lengths }
+        ensures numbers { result.2.now ≡ take self.now.loaded.numbers self.now.numbers }
+    {
         (
             cases::first(&self.kinds, self.loaded.kinds),
             cases::first(&self.lengths, self.loaded.lengths),
@@ -50,7 +57,12 @@ impl Lists {
         )
     }
 
-    pub fn parts_mut(&mut self) -> (&mut [u8], &mut [u32], &mut [u32]) {
+    // The same, to be changed.
+    pub fn parts_mut(&mut self) -> (&mut [u8], &mut [u32], &mut [u32])
+        ensures kinds { result.0.now ≡ take self.old.loaded.kinds self.old.kinds }
+        ensures lengths { result.1.now ≡ take self.old.loaded.lengths self.old.lengths }
+        ensures numbers { result.2.now ≡ take self.old.loaded.numbers self.old.numbers }
+    {
         let Lists {
             kinds,
             lengths,

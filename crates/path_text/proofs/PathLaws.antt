@@ -1,9 +1,10 @@
 -- Laws of the path's tokens.
-use Rattle.std.specs.Prelude.{Option, Ok, Err}
+use Rattle.std.specs.Prelude.{Option, Ok, Err, unwrap_or, is_some}
+use Rattle.std.specs.List.{last_or as last_of, filter}
 use Prim.Native.Nat.{ℕ, zero, suc, ◌+◌, ◌-◌, ◌≤◌, ◌<◌}
 use mathlib.Core.Path.{◌≡◌, refl, sym, ap, ◌∙◌}
 use mathlib.Core.Bool.{Bool, true, false, cond}
-use mathlib.Core.List.{List, [], ◌∷◌, ◌++◌, append_assoc, append-nil}
+use mathlib.Core.List.{List, [], ◌∷◌, ◌++◌, append_assoc, append-nil, map}
 use native.Mathlib.Omega.{arith}
 use native.Mathlib.Numerals.{add-one}
 use lib.ListN.{length, take, drop, set, take-append-drop}
@@ -14,8 +15,9 @@ use Rattle.scan.specs.Ascii.{ascii}
 use Rattle.scan.specs.Search.{equal}
 use Rattle.scan.proofs.SearchLaws.{equal_path}
 use Rattle.text.specs.White.{tokens, next_token}
-use Rattle.text.proofs.TokenLaws.{Walk, walk, walk_end}
+use Rattle.text.proofs.TokenLaws.{Walk, walk, walk_end, next_order, next_inside}
 use Rattle.decimal.specs.Decimal.{unsigned, digits, behind, read_u32}
+use Rattle.std.proofs.Common.{Bor}
 use Rattle.path_text.specs.Path.{last_or, last_token, letter, is_known, take_off, if_number, numbers, asns_of, put_answer}
 use Rattle.path_text.specs.Walk.{asns_from, Steps, Finds, lone}
 use Rattle.output.specs.Output.{front}
@@ -29,28 +31,31 @@ module _ (s : List ℕ) (i : ℕ) (w : Option (ℕ × ℕ)) (q : w ≡ next_toke
   lies : Walk s i a e
   lies = walk s i a e (sym q ∙ f)
 
-  pub token_order : a ≤ e
-  token_order = omega (arith, lies.some_byte)
+-- the last token, of the items that a whole run over the tokens gave
+last_item : (o : Option (Bor (List ℕ))) (d : Bor (List ℕ)) (xs : List (Bor (List ℕ)))
+    → (unwrap_or (last_of o xs) d).now ≡ last_or (unwrap_or o d).now (map (λ x. x.now) xs)
+unfolding last_or
+last_item o d [] = refl
+last_item o d (x ∷ xs) = last_item (Some x) d xs
 
-  pub token_end : e ≤ length s
-  token_end = lies.inside
-
-  pub token_less : length s - e < length s - i
-  token_less = omega (arith, lies.from, lies.some_byte, lies.inside)
-
--- the last token
-pub last_starts : (s : List ℕ) → last_token s ≡ last_or [] (tokens (drop 0 s))
+pub last_seen : (s : List ℕ) (xs : List (Bor (List ℕ))) (l : Option (Bor (List ℕ))) (d r : Bor (List ℕ)) → map (λ x. x.now) xs ≡ tokens s → l ≡ last_of None xs
+    → d.now ≡ [] → r ≡ unwrap_or l d → r.now ≡ last_token s
 unfolding last_token
-last_starts s = refl
+last_seen s xs l d r e f z q = ap (λ x. x.now) q ∙ rw (f, ← e, ← z) (last_item None d xs)
 
-module _ (s last : List ℕ) (at : ℕ) (inv : last_token s ≡ last_or last (tokens (drop at s))) (w : Option (ℕ × ℕ)) (q : w ≡ next_token s at) where
-  pub last_found : w ≡ None → last ≡ last_token s
-  unfolding last_or
-  last_found f = sym (inv ∙ rw (walk_end s at (sym q ∙ f)))
+-- how many tokens are numbers
+abbrev pub is_number : List ℕ → Bool
+is_number w = is_some (read_u32 w)
 
-  pub last_later : (a e : ℕ) → w ≡ Some (a, e) → last_token s ≡ last_or (take (e - a) (drop a s)) (tokens (drop e s))
-  unfolding last_or
-  last_later a e f = inv ∙ rw (walk s at a e (sym q ∙ f)).step
+pub number_count : (ws : List (List ℕ)) → length (filter is_number ws) ≡ length (numbers ws)
+unfolding numbers
+number_count [] = refl
+number_count (w ∷ ws) = go (read_u32 w) (number_count ws)
+  where
+    go : (r : Option ℕ) → length (filter is_number ws) ≡ length (numbers ws)
+        → length (cond (is_some r) (w ∷ filter is_number ws) (filter is_number ws)) ≡ length (if_number r (numbers ws))
+    go (Some n) e = ap suc e
+    go None e = e
 
 -- an origin is no number: taken off or not, the AS numbers are the same, so that the code need not
 -- take it off
@@ -109,6 +114,9 @@ many_places s k h =
     let t : length (tokens (drop 0 s)) ≤ length s - 0 = tokens_left (length s) s 0 (omega arith) in
     sym (le-leb (length (asns_of s)) k (rw (asns_are s) (omega (arith, numbers_few (tokens s), t))))
 
+pub few_tokens : (s : List ℕ) → length (tokens s) ≤ length s
+few_tokens s = omega (arith, tokens_left (length s) s 0 (omega arith))
+
 -- one step of the walk
 module _ (s : List ℕ) (i : ℕ) where
   pub is_lone_none : (z : Bool) → z ≡ lone (drop i s) → z ≡ true → asns_from s i ≡ []
@@ -128,9 +136,6 @@ module _ (s : List ℕ) (i : ℕ) where
       finds_token = (forward, rw (lies s i w q a e f).step (rw p))
 
 -- the walk: n numbers are in front of the place i
-pub count_starts : (s : List ℕ) → 0 + length (asns_from s 0) ≡ length (asns_of s)
-count_starts s = omega (arith, ap length (asns_are s))
-
 module _ (s : List ℕ) (i n : ℕ) (inv : n + length (asns_from s i) ≡ length (asns_of s)) where
   pub counted : asns_from s i ≡ [] → n ≡ length (asns_of s)
   counted f = omega (arith, inv, ap length f)
@@ -179,11 +184,8 @@ module _ (asns old : List ℕ) where
   unfolding front
   all_laid h = rw h
 
--- for last_token: where a token lies, and what is the last so far
-pub ruleset last_token_laws = (token_order, token_end, token_less, last_starts, last_found, last_later)
-
 -- for next_asn: where a token lies, and where none is left
-pub ruleset next_asn_laws = (token_order, token_end, finds_end)
+pub ruleset next_asn_laws = (next_order, next_inside, finds_end)
 
 -- for write_asns: what the lent list holds at each turn
 pub ruleset write_asns_laws = (writing_starts, wrote_more, kept_more, written)

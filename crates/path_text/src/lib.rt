@@ -7,18 +7,12 @@ ghost use Rattle.path_text.specs.Path.{last_token, letter, is_known, origin_of, 
 ghost use Rattle.path_text.specs.Walk.{lone, IsPlain, Finds};
 
 use elem::Origin;
+use text::Tokens;
 
-#[tactic(auto, using(crate::proofs::PathLaws::last_token_laws))]
 fn last_token(s: &[u8]) -> &[u8]
     ensures { result.now ≡ last_token s.now }
 {
-    let mut last = &s[..0];
-    let mut at = 0;
-    while let Some((a, b)) = text::next_token(s, at) {
-        last = &s[a..b];
-        at = b;
-    }
-    last
+    Tokens::of(s).last().unwrap_or(&[])
 }
 
 #[tactic(auto, using(crate::proofs::OriginLaws::letter_laws))]
@@ -112,19 +106,12 @@ fn quick_asn(part: &[u8], at: usize) -> Option<(Option<u32>, usize)>
 }
 
 // How many AS numbers a path's part has.
-#[tactic(auto, using(crate::proofs::PathLaws::count_starts))]
 pub fn count_asns(part: &[u8]) -> usize
     ensures { result ≡ length (asns_of part.now) }
 {
-    let mut at = 0;
-    let mut count = 0;
-    while let Some((number, end)) = next_asn(part, at) {
-        if number.is_some() {
-            count += 1;
-        }
-        at = end;
-    }
-    count
+    Tokens::of(part)
+        .filter(|token| decimal::read_u32(token).is_some())
+        .count()
 }
 
 #[tactic(auto, using(crate::proofs::PathLaws::write_asns_laws))]
@@ -133,7 +120,8 @@ fn write_asns(part: &[u8], out: &mut [u32]) -> usize
     ensures { (result ≡ length (asns_of part.now)) × (out.new ≡ asns_of part.now ++ drop (length (asns_of part.now)) out.old) }
 {
     let mut at = 0;
-    // Stays counted by hand: n goes on at numbers alone, and the walk at every token.
+    // Stays counted by hand: zipped with out.iter_mut(), an iterator of the numbers alone would be
+    // needed, and how many they are would be counted beside it all the same.
     let mut n = 0;
     while let Some((number, end)) = quick_asn(part, at) {
         if let Some(x) = number {

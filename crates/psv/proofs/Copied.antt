@@ -10,16 +10,17 @@ use Rattle.output.specs.declared.PutError.TheVariants.{TooShort}
 use Rattle.output.proofs.Output.{too_short, kept}
 use Rattle.elem.specs.Element.{numbers}
 use Rattle.elem.specs.declared.Element.{Element}
-use Rattle.psv.specs.Line.{bar, sequence_text, asn_text, psv_text, begin_text, attributes_text, tail_text, texts_line}
+use Rattle.psv.specs.declared.Attributes.{Attributes}
+use Rattle.psv.specs.Line.{bar, sequence_text, asn_text, psv_text, begin_text, attributes_of, attributes_text, tail_text, texts_line}
 use Rattle.psv.proofs.Printing.{psv_line}
 
-module _ (begin path asn : List ℕ) (e : Element) where
-  pub texts_length : 2 + length (attributes_text e) + length begin + length path + length asn ≡ length (texts_line begin path asn e)
+module _ (begin path asn : List ℕ) (a : Attributes) where
+  pub texts_length : 2 + length (attributes_text a) + length begin + length path + length asn ≡ length (texts_line begin path asn a)
   unfolding texts_line
   texts_length = simp length-append (omega arith)
 
-  pub texts_short : (out : List ℕ) → length out < 2 + length (attributes_text e) + length begin + length path + length asn
-      → ((Err TooShort) ≡ answer (texts_line begin path asn e) out) × (out ≡ front (texts_line begin path asn e) out)
+  pub texts_short : (out : List ℕ) → length out < 2 + length (attributes_text a) + length begin + length path + length asn
+      → ((Err TooShort) ≡ answer (texts_line begin path asn a) out) × (out ≡ front (texts_line begin path asn a) out)
   texts_short out l = (too_short _ _ _ texts_length l, kept _ _ _ texts_length l)
 
 -- the texts of an element's own fields make its line
@@ -27,13 +28,7 @@ regroup : (x b p q g : List ℕ) → b ++ p ++ x ++ q ++ g ++ x ≡ b ++ p ++ (x
 regroup x b p q g = simp append_assoc
 
 pub copied_line : (e : Element) (asns begin path asn ns : List ℕ) → begin ≡ begin_text e → path ≡ sequence_text ns → ns ≡ numbers e asns
-    → asn ≡ asn_text e.origin_asn → texts_line begin path asn e ≡ psv_text e asns
+    → asn ≡ asn_text e.origin_asn → texts_line begin path asn (attributes_of e) ≡ psv_text e asns
 unfolding texts_line tail_text
 copied_line e asns begin path asn ns h i j k =
-    rw (h, i, j, k) (regroup bar (begin_text e) (sequence_text (numbers e asns)) (asn_text e.origin_asn) (attributes_text e) ∙ psv_line e asns)
-
--- the attributes are those of four fields: the others may be lent unfilled
-pub attributes_same : (e f : Element) → e.origin ≡ f.origin → e.next_hop ≡ f.next_hop → e.local_pref ≡ f.local_pref → e.metric ≡ f.metric
-    → attributes_text e ≡ attributes_text f
-unfolding attributes_text
-attributes_same e f o n l m = rw (o, n, l, m)
+    rw (h, i, j, k) (regroup bar (begin_text e) (sequence_text (numbers e asns)) (asn_text e.origin_asn) (attributes_text (attributes_of e)) ∙ psv_line e asns)

@@ -31,7 +31,9 @@ use Rattle.elem.specs.declared.Element.{Element}
 use Rattle.elem.specs.declared.Origin.TheVariants.{IGP, EGP, INCOMPLETE}
 use Rattle.elem.specs.declared.Origin.{Origin}
 use Rattle.elem.specs.contracts.Element as element
-use Rattle.psv.specs.Line.{type_text, time_text, asn_text, origin_text, number_text, front_text, between_text, begin_text, attributes_text, tail_text}
+use Rattle.psv.specs.contracts.Attributes as attributes
+use Rattle.psv.specs.declared.Attributes.{Attributes}
+use Rattle.psv.specs.Line.{type_text, time_text, asn_text, origin_text, number_text, front_text, between_text, begin_text, attributes_of, attributes_text, tail_text}
 
 -- the numbers
 number_le : (n : ℕ) → Fits w32 n → length (decimal n) ≤ 20
@@ -91,6 +93,20 @@ between_le : (p : NetworkPrefix) → Fits w8 p.len → length (between_text p) �
 unfolding between_text
 between_le p f = simp length-append (omega (arith, prefix_le p f))
 
+attributes_bound : (a : Attributes) → length (number_text a.local_pref) ≤ 20 → length (number_text a.metric) ≤ 20 → length (attributes_text a) ≤ 108
+unfolding attributes_text
+attributes_bound a h i = simp length-append (omega (arith, origin_le a.origin, address_le a.next_hop, h, i))
+
+module _ (a : Attributes) (vs : List Val) (is : Is (struct.row attributes.the_type) a vs) where
+  preference_printed : length (number_text a.local_pref) ≤ 20
+  preference_printed = search u32_le
+
+  metric_printed : length (number_text a.metric) ≤ 20
+  metric_printed = search u32_le
+
+  pub attributes_le : length (attributes_text a) ≤ 108
+  attributes_le = attributes_bound a preference_printed metric_printed
+
 module _ (e : Element) (vs : List Val) (is : Is (struct.row element.the_type) e vs) where
   pub begin_le : length (begin_text e) ≤ 158
   begin_le =
@@ -105,11 +121,9 @@ module _ (e : Element) (vs : List Val) (is : Is (struct.row element.the_type) e 
   metric_field : length (number_text e.metric) ≤ 20
   metric_field = search u32_le
 
-  pub attributes_le : length (attributes_text e) ≤ 108
-  unfolding attributes_text
-  attributes_le =
-      simp length-append (omega (arith, origin_le e.origin, address_le e.next_hop, preference_field, metric_field))
+  pub short_tail_le : length (attributes_text (attributes_of e)) ≤ 108
+  short_tail_le = attributes_bound (attributes_of e) preference_field metric_field
 
   pub tail_le : length (tail_text e) ≤ 130
   unfolding tail_text
-  tail_le = simp length-append (omega (arith, asn_field, attributes_le))
+  tail_le = simp length-append (omega (arith, asn_field, short_tail_le))

@@ -23,7 +23,7 @@ use Rattle.aspath_display.specs.Display.{lead, separated}
 use Rattle.elem.specs.Element.{spoilt, numbers}
 use Rattle.elem.specs.declared.Element.{Element}
 use Rattle.psv.specs.declared.ElementError.TheVariants.{TooShort}
-use Rattle.psv.specs.Line.{header_text, bar, type_text, time_text, sequence_text, asn_text, origin_text, number_text, psv_text, display_text, front_text, between_text, attributes_text, tail_text, line_text, Printed}
+use Rattle.psv.specs.Line.{header_text, bar, type_text, time_text, sequence_text, asn_text, origin_text, number_text, psv_text, display_text, front_text, between_text, attributes_of, attributes_text, tail_text, line_text, Printed}
 
 -- an AS number is a number
 pub asn_number : (x : Option Asn) → number_text (option_map (λ (a : Asn). a.0) x) ≡ asn_text x
@@ -135,7 +135,7 @@ unfolding between_text front_text tail_text attributes_text psv_text
 psv_line e asns =
     join16 (type_text e.announce) (time_text (second_of e.timestamp)) (address_text e.peer_ip) (decimal e.peer_asn.0) (prefix_text e.prefix) (sequence_text (numbers e asns)) (asn_text e.origin_asn) (origin_text e.origin) (address_text e.next_hop) (number_text e.local_pref) (number_text e.metric)
 
-pub display_line : (e : Element) (asns : List ℕ) → line_text (attributes_text e) e asns ≡ display_text e asns
+pub display_line : (e : Element) (asns : List ℕ) → line_text (attributes_text (attributes_of e)) e asns ≡ display_text e asns
 unfolding between_text front_text attributes_text display_text
 display_line e asns =
     join14 (type_text e.announce) (time_text (second_of e.timestamp)) (address_text e.peer_ip) (decimal e.peer_asn.0) (prefix_text e.prefix) (sequence_text (numbers e asns)) (origin_text e.origin) (address_text e.next_hop) (number_text e.local_pref) (number_text e.metric)

@@ -13,6 +13,7 @@ use Rattle.elem.specs.Element.{numbers}
 use Rattle.elem.specs.declared.Element.{Element}
 use Rattle.elem.specs.declared.Origin.TheVariants.{IGP, EGP, INCOMPLETE}
 use Rattle.elem.specs.declared.Origin.{Origin}
+use Rattle.psv.specs.declared.Attributes.{Attributes}
 use Rattle.psv.specs.declared.ElementError.{ElementError}
 use Rattle.psv.specs.declared.ElementError.TheVariants.{Spoilt, TooShort}
 
@@ -86,20 +87,23 @@ abbrev pub begin_text : Element → List ℕ
 begin_text e = peer_text e ++ between_text e.prefix
 
 -- what stands behind it, in Display's line
-unfoldable pub attributes_text : Element → List ℕ
-attributes_text e = bar ++ origin_text e.origin ++ bar ++ address_text e.next_hop ++ bar ++ number_text e.local_pref ++ bar ++ number_text e.metric ++ ascii "||false||"
+abbrev pub attributes_of : Element → Attributes
+attributes_of e = record { origin = e.origin; next_hop = e.next_hop; local_pref = e.local_pref; metric = e.metric }
+
+unfoldable pub attributes_text : Attributes → List ℕ
+attributes_text a = bar ++ origin_text a.origin ++ bar ++ address_text a.next_hop ++ bar ++ number_text a.local_pref ++ bar ++ number_text a.metric ++ ascii "||false||"
 
 -- and in to_psv's
 unfoldable pub tail_text : Element → List ℕ
-tail_text e = bar ++ asn_text e.origin_asn ++ attributes_text e ++ bar
+tail_text e = bar ++ asn_text e.origin_asn ++ attributes_text (attributes_of e) ++ bar
 
 -- the line that ends so
 abbrev pub line_text : List ℕ → Element → List ℕ → List ℕ
 line_text tail e asns = begin_text e ++ sequence_text (numbers e asns) ++ tail
 
--- a line whose texts are at hand: all up to the path, the path, and the origin AS; of the element only the fields behind them
-unfoldable pub texts_line : List ℕ → List ℕ → List ℕ → Element → List ℕ
-texts_line begin path asn e = begin ++ path ++ bar ++ asn ++ attributes_text e ++ bar
+-- a line whose texts are at hand: all up to the path, the path, and the origin AS; and the attributes behind them
+unfoldable pub texts_line : List ℕ → List ℕ → List ℕ → Attributes → List ℕ
+texts_line begin path asn a = begin ++ path ++ bar ++ asn ++ attributes_text a ++ bar
 
 -- what a call that prints a text of the element answers and leaves: 01's order, 8, then 9 with the output as it was
 pub record Printed (spoilt : Bool) (text out : List ℕ) (r : Result ℕ ElementError) (new : List ℕ) : Type 0 where

@@ -6,7 +6,7 @@ ghost use Rattle.output.specs.Output.{front, answer};
 ghost use Rattle.output.specs.Writing.{Writes};
 ghost use Rattle.seconds.specs.Seconds.{second_of};
 ghost use Rattle.elem.specs.Element.{spoilt, numbers};
-ghost use Rattle.psv.specs.Line.{header_text, type_text, time_text, sequence_text, asn_text, origin_text, number_text, psv_text, display_text, front_text, between_text, begin_text, attributes_text, tail_text, line_text, texts_line, Printed};
+ghost use Rattle.psv.specs.Line.{header_text, type_text, time_text, sequence_text, asn_text, origin_text, number_text, psv_text, display_text, front_text, between_text, begin_text, attributes_of, attributes_text, tail_text, line_text, texts_line, Printed};
 
 use elem::{Element, Origin};
 use network::{Asn, IpAddr, NetworkPrefix};
@@ -25,6 +25,29 @@ pub struct Source {
     pub timestamp: f64,
     pub peer_ip: IpAddr,
     pub peer_asn: Asn,
+}
+
+// What a line says of a route after its path.
+#[derive(Debug, Clone, Copy, PartialEq)]
+pub struct Attributes {
+    pub origin: Option<Origin>,
+    pub next_hop: IpAddr,
+    pub local_pref: Option<u32>,
+    pub metric: Option<u32>,
+}
+
+impl From<Element> for Attributes {
+    ghost from_gives = { λ e a. a ≡ attributes_of e };
+
+    #[inline(always)]
+    fn from(e: Element) -> Attributes {
+        Attributes {
+            origin: e.origin,
+            next_hop: e.next_hop,
+            local_pref: e.local_pref,
+            metric: e.metric,
+        }
+    }
 }
 
 // What stands before the path.
@@ -109,18 +132,25 @@ fn write_origin(origin: Option<Origin>, w: &mut Writer)
 }
 
 #[inline(always)]
-fn write_attributes(e: Element, w: &mut Writer)
-    ensures { Writes (attributes_text e) w.old w.new }
+fn write_attributes(a: Attributes, w: &mut Writer)
+    ensures { Writes (attributes_text a) w.old w.new }
 {
     w.byte(b'|');
-    write_origin(e.origin, w);
+    write_origin(a.origin, w);
     w.byte(b'|');
-    network_display::write_address(e.next_hop, w);
+    network_display::write_address(a.next_hop, w);
     w.byte(b'|');
-    write_number(e.local_pref, w);
+    write_number(a.local_pref, w);
     w.byte(b'|');
-    write_number(e.metric, w);
+    write_number(a.metric, w);
     w.bytes(b"||false||");
+}
+
+// The tail of Display's line, and to_psv's.
+fn write_short_tail(e: Element, w: &mut Writer)
+    ensures { Writes (attributes_text (attributes_of e)) w.old w.new }
+{
+    write_attributes(Attributes::from(e), w);
 }
 
 fn write_tail(e: Element, w: &mut Writer)
@@ -128,7 +158,7 @@ fn write_tail(e: Element, w: &mut Writer)
 {
     w.byte(b'|');
     write_number(e.origin_asn.map(|asn| asn.0), w);
-    write_attributes(e, w);
+    write_attributes(Attributes::from(e), w);
     w.byte(b'|');
 }
 
@@ -210,7 +240,7 @@ pub fn to_psv(e: Element, asns: &[u32], out: &mut [u8]) -> Result<usize, Element
 pub fn display_element(e: Element, asns: &[u32], out: &mut [u8]) -> Result<usize, ElementError>
     ensures { Printed (spoilt e asns.now) (display_text e asns.now) out.old result out.new }
 {
-    put_ended(write_attributes, e, asns, out)
+    put_ended(write_short_tail, e, asns, out)
 }
 
 // What a line begins with: the same for all elements of a peer and a time.
@@ -227,8 +257,8 @@ pub fn put_front(source: Source, out: &mut [u8]) -> Result<usize, PutError>
 
 // Whether the attributes and the bars around them, 110 bytes at most, have room. They are measured
 // only where that is not sure: to measure an address is to write it.
-fn attributes_fit(e: Element, room: usize) -> bool
-    ensures { result ≡ leb (2 + length (attributes_text e)) room }
+fn attributes_fit(a: Attributes, room: usize) -> bool
+    ensures { result ≡ leb (2 + length (attributes_text a)) room }
 {
     let surely = 110 <= room;
     if surely {
@@ -236,7 +266,7 @@ fn attributes_fit(e: Element, room: usize) -> bool
     }
     let mut places = [0; 108];
     let mut w = Writer::new(&mut places);
-    write_attributes(e, &mut w);
+    write_attributes(a, &mut w);
     2 + w.text().len() <= room
 }
 
@@ -248,19 +278,19 @@ fn left_of(room: usize, a: usize, b: usize, c: usize) -> Option<usize>
 }
 
 // to_psv's line of texts that are not looked at: what stands before the path, the path and the
-// origin AS. Of the element only its origin, next hop, preference and metric are printed.
+// origin AS; and of the attributes.
 pub fn put_texts(
     begin: &[u8],
     path: &[u8],
     origin_asn: &[u8],
-    e: Element,
+    attributes: Attributes,
     out: &mut [u8],
 ) -> Result<usize, PutError>
-    ensures { (result ≡ answer (texts_line begin.now path.now origin_asn.now e) out.old) × (out.new ≡ front (texts_line begin.now path.now origin_asn.now e) out.old) }
+    ensures { (result ≡ answer (texts_line begin.now path.now origin_asn.now attributes) out.old) × (out.new ≡ front (texts_line begin.now path.now origin_asn.now attributes) out.old) }
 {
     let left = left_of(out.len(), begin.len(), path.len(), origin_asn.len());
     let left = left.ok_or(PutError::TooShort)?;
-    if !attributes_fit(e, left) {
+    if !attributes_fit(attributes, left) {
         return Err(PutError::TooShort);
     }
     let mut w = Writer::new(out);
@@ -268,7 +298,7 @@ pub fn put_texts(
     w.bytes(path);
     w.byte(b'|');
     w.bytes(origin_asn);
-    write_attributes(e, &mut w);
+    write_attributes(attributes, &mut w);
     w.byte(b'|');
     Ok(w.at)
 }

@@ -1,7 +1,6 @@
--- The loop over the body's lines: what each line does, and what the loop comes to.
+-- The lines of the body: what each line does.
 use Rattle.std.specs.Prelude.{Result, Ok, Err}
-use Rattle.std.proofs.Common.{◌≡◌, ℕ, ◌+◌, ◌-◌, ◌<◌, ◌≤◌, Bool, true, false, cond, leb, List, [], ◌∷◌, ◌++◌, length, take, drop, sym, refl, ap, ◌∙◌, subst, inl, arith, length-take, leb-false, leb-true}
-use mathlib.Core.Bool.{false≢true}
+use Rattle.std.proofs.Common.{◌≡◌, ℕ, ◌-◌, ◌<◌, ◌≤◌, Bool, true, false, cond, leb, List, [], ◌∷◌, ◌++◌, length, take, drop, sym, refl, ap, ◌∙◌, arith, length-take, leb-false, leb-true}
 use Rattle.scan.specs.Lines.{lines}
 use Rattle.scan.proofs.LineLaws.{line_alone}
 use Rattle.network.specs.declared.NetworkPrefix.{NetworkPrefix}
@@ -27,10 +26,8 @@ use Rattle.input.specs.declared.Front.TheVariants as front
 use Rattle.packed.specs.Packed.{remembered_in}
 use Rattle.packed.specs.declared.Packed.{Packed}
 use Rattle.psv_stream.specs.Printed.{refusal_text, refuse, printed_element, answered, after, next_of}
-use Rattle.psv_stream.specs.Run.{Runs}
-use Rattle.psv_stream.specs.Parts.{Puts, acts, Steps, Came, element_for, routed, PutRoute, front_of, Starts, kept_len, state_of, phase_of, step_of, Fine, Kept, Keeps, BodyDoes, BodySteps}
-use Rattle.psv_stream.specs.declared.Phase.{Phase}
-use Rattle.psv_stream.specs.declared.Phase.TheVariants.{Body, Stopped}
+use Rattle.psv_stream.specs.Parts.{Puts, acts, Steps, element_for, routed, PutRoute, front_of, Starts, kept_len, state_of, phase_of, step_of, Fine, Kept, BodyDoes}
+use Rattle.psv_stream.specs.declared.Phase.TheVariants.{Body}
 use Rattle.psv_stream.specs.declared.Ran.{Ran}
 use Rattle.psv_stream.specs.Refusal.{number as number_of}
 use Rattle.psv_stream.specs.declared.Refusal.{Refusal}
@@ -40,8 +37,7 @@ use Rattle.psv_stream.specs.declared.Step.TheVariants as step
 use Rattle.psv_stream.proofs.Texts.{puts_none}
 use Rattle.psv_stream.proofs.Lines.{refused_does}
 use Rattle.psv_stream.proofs.Steps as steps
-use Rattle.psv_stream.proofs.Runs as loop
-use Rattle.psv_stream.proofs.Runs.{left, room, new, none_yet, runs}
+use Rattle.psv_stream.proofs.Runs.{new}
 use Rattle.psv_stream.proofs.Routes.{none_started, text_keeps}
 
 -- what a line does
@@ -213,10 +209,7 @@ module _ (σ : State) (b : Cursor) (s : List ℕ) (ended : Bool) (f : Front) (kn
       → Steps (phase_of σ b) s ended out new (step_of σ r)
   line_steps e g out new r = steps.line_steps (phase_of σ b) s ended 0 refl f known out new (step_of σ r) e g
 
--- the loop: where its lines have come to
-pub record At (σ : State) (number : ℕ) (s : List ℕ) (ended : Bool) (out₀ : List ℕ) (b : Cursor) (c w : ℕ) (out : List ℕ) : Type 0 where
-  pub lines : Came (Body σ number) s ended out₀ (phase_of σ b) c w out
-
+-- before the first line
 module _ (σ : State) (number : ℕ) where
   abbrev first : Packed → Cursor
   first q = record { position = σ.position; number = number; start_len = 0; memory = q }
@@ -225,75 +218,10 @@ module _ (σ : State) (number : ℕ) where
   first_phase q v = rw v (ap (λ (z : State). Body z number) (moved_cursor σ))
 
   module _ (b : Cursor) where
-    pub none_taken : phase_of σ b ≡ Body σ number → (s : List ℕ) (ended : Bool) (out : List ℕ) → At σ number s ended out b 0 0 out
-    none_taken f s ended out = record { lines = subst (λ (p : Phase). Came (Body σ number) s ended out p 0 0 out) (sym f) (none_yet (Body σ number) s ended out) }
-
     pub first_kept : remembered_in b.memory ≡ σ.remembered → b.start_len ≡ 0 → (start : List ℕ) (n : ℕ) → Fine σ σ.remembered → Starts (front_of σ) start n σ.remembered 0 → Kept σ start n b
     first_kept v z start n f g = record { fine = rw v f; starts = rw (v, z) g }
-
-module _ {σ : State} {number : ℕ} {s : List ℕ} {ended : Bool} {out₀ : List ℕ} {b : Cursor} {c w : ℕ} {out : List ℕ} (so_far : At σ number s ended out₀ b c w out) where
-  abbrev before : Phase
-  before = Body σ number
-
-  abbrev came : Came before s ended out₀ (phase_of σ b) c w out
-  came = so_far.lines
-
-  abbrev left' : List ℕ
-  left' = left before s ended out₀ (phase_of σ b) c w out came
-
-  abbrev room' : List ℕ
-  room' = room before s ended out₀ (phase_of σ b) c w out came
-
-  -- no room
-  pub full : (part : List ℕ) → (length room' < 65537) × (part ≡ room') → (r : Ran) → r ≡ record { phase = phase_of σ b; consumed = c; written = w; starved = false }
-      → Runs before s ended out₀ r (new before s ended out₀ (phase_of σ b) c w out came part)
-  full part none r e = rw e (loop.full before s ended out₀ (phase_of σ b) c w out came part none)
-
-  module _ (part : List ℕ) (z : Step Cursor) (known : BodySteps σ b left' ended room' part z) where
-    abbrev new' : List ℕ
-    new' = new before s ended out₀ (phase_of σ b) c w out came part
-
-    pub same_new : length part ≡ length room' → length new' ≡ length out₀
-    same_new = loop.same_new before s ended out₀ (phase_of σ b) c w out came part
-
-    module _ (d v : ℕ) (q : Cursor) (f : z ≡ step.Took d v q) where
-      pub inside : c + d ≤ length s
-      inside = loop.inside before s ended out₀ (phase_of σ b) c w out came part (step_of σ z) known d v (phase_of σ q) (ap (step_of σ) f)
-
-      pub within : w + v ≤ length out₀
-      within = loop.within before s ended out₀ (phase_of σ b) c w out came part (step_of σ z) known d v (phase_of σ q) (ap (step_of σ) f)
-
-      pub fewer : length s - (c + d) < length s - c
-      fewer = omega (arith, loop.fewer before s ended out₀ (phase_of σ b) c w out came part (step_of σ z) known d v (phase_of σ q) (ap (step_of σ) f))
-
-      pub takes : length part ≡ length room' → At σ number s ended out₀ q (c + d) (w + v) new'
-      takes h = record { lines = loop.takes before s ended out₀ (phase_of σ b) c w out came part (step_of σ z) known d v (phase_of σ q) (ap (step_of σ) f) h }
-
-      pub keeps : (start : List ℕ) (n : ℕ) → Keeps σ start n z → Kept σ start n q
-      keeps start n k = rw f at k
-
-    module _ (v : ℕ) (f : z ≡ step.Stops v) where
-      pub stops_within : w + v ≤ length out₀
-      stops_within = loop.stops_within before s ended out₀ (phase_of σ b) c w out came part (step_of σ z) known v (ap (step_of σ) f)
-
-      pub stops : length part ≡ length room' → (r : Ran) → r ≡ record { phase = Stopped; consumed = c; written = w + v; starved = false } → Runs before s ended out₀ r new'
-      stops h r e =
-          rw e
-          (runs before s ended out₀ Stopped c (w + v) new'
-          (loop.stops before s ended out₀ (phase_of σ b) c w out came part (step_of σ z) known v (ap (step_of σ) f) h)
-          false (λ g. absurd (false≢true g)) (λ g. inl refl))
-
-    pub starves : z ≡ step.Starved → (r : Ran) → r ≡ record { phase = phase_of σ b; consumed = c; written = w; starved = true } → Runs before s ended out₀ r new'
-    starves f r e =
-        rw e
-        (runs before s ended out₀ (phase_of σ b) c w new'
-        (loop.starves before s ended out₀ (phase_of σ b) c w out came part (step_of σ z) known (ap (step_of σ) f))
-        true (λ g. loop.starved before s ended out₀ (phase_of σ b) c w out came part (step_of σ z) known (ap (step_of σ) f)) (λ g. absurd (false≢true (sym g))))
 
 -- where it ends
 pub ran : (σ : State) (b : Cursor) (m : Remembered) → m ≡ remembered_in b.memory → (τ : State) → τ ≡ moved σ (record { at = b.position; remembered = plain m }) → (c w : ℕ) (z : Bool)
     → ◌≡◌ {A = Ran} (record { phase = Body τ b.number; consumed = c; written = w; starved = z }) (record { phase = phase_of σ b; consumed = c; written = w; starved = z })
 ran σ b m f τ e c w z = rw (e, f)
-
--- for the loop over the body's lines
-pub ruleset body_laws = (loop.room_length, same_new, stops_within, inside, within, fewer)

@@ -17,7 +17,7 @@ use Rattle.path_text.specs.Path.{last_or, asns_of}
 use Rattle.path_text.specs.Walk.{asns_from, Takes}
 use Rattle.path_text.proofs.PathLaws.{asns_are, many_places}
 use Rattle.path_text.proofs.PlainLaws.{counted_inside, counted_found, counted_digits, counted_first, counted_space, last_none}
-use Rattle.elem.specs.declared.Element.{Element}
+use Rattle.psv.specs.declared.Attributes.{Attributes}
 use Rattle.psv.specs.Line.{sequence_text, asn_text, texts_line}
 use Rattle.text_dump.specs.Rules.{origin_asn}
 use Rattle.psv_stream.specs.Printed.{feed}
@@ -138,15 +138,15 @@ module _ (path : List ℕ) (p : Option (ℕ × ℕ)) (told : IsPlain path p) (la
   spelled_inside = spelled.inside
 
 -- the line
-module _ (start path : List ℕ) (e : Element) (out part : List ℕ) (last end : ℕ) (r : Result ℕ PutError) (room : 65537 ≤ length out) (s : Spells path last end) (told : (r ≡ answer (texts_line start (take end path) (take (end - last) (drop last path)) e) (take 65536 out)) × (part ≡ front (texts_line start (take end path) (take (end - last) (drop last path)) e) (take 65536 out))) where
+module _ (start path : List ℕ) (a : Attributes) (out part : List ℕ) (last end : ℕ) (r : Result ℕ PutError) (room : 65537 ≤ length out) (s : Spells path last end) (told : (r ≡ answer (texts_line start (take end path) (take (end - last) (drop last path)) a) (take 65536 out)) × (part ≡ front (texts_line start (take end path) (take (end - last) (drop last path)) a) (take 65536 out))) where
   abbrev text : List ℕ
-  text = copied_text start path e
+  text = copied_text start path a
 
   known : (q : Result ℕ PutError) → r ≡ q → Told text (take 65536 out) part q
   known q f = subst (Told text (take 65536 out) part) f (told_by text (take 65536 out) part r (rw (s.text, s.asn) at told))
 
   pub copied_put : length path ≤ 16384 → (n : ℕ) → r ≡ Ok n → (new : List ℕ) (w : ℕ) → Written feed (part ++ drop 65536 out) n new w
-      → Copies start path e out new (Some w)
+      → Copies start path a out new (Some w)
   copied_put few n f new w v =
       let y = part_put out part room text n (known (Ok n) f) new w v in
       (leb-true (length (asns_of path)) 16384 (sym (many_places path 16384 few)), y.0, y.1)
@@ -155,7 +155,7 @@ module _ (start path : List ℕ) (e : Element) (out part : List ℕ) (last end :
   copied_short (Ok n) h f = absurd (none-some n (sym f))
   copied_short (Err TooShort) h f = whole_again out part room h.1
 
-  pub copied_none : result_ok r ≡ None → (w : Option ℕ) → w ≡ None → Copies start path e out (part ++ drop 65536 out) w
+  pub copied_none : result_ok r ≡ None → (w : Option ℕ) → w ≡ None → Copies start path a out (part ++ drop 65536 out) w
   copied_none f w g = rw g (copied_short r (known r refl) f)
 
 -- for the walk over a path

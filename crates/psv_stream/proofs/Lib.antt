@@ -5,6 +5,7 @@ pub mod Steps
 pub mod Runs
 pub mod Routes
 pub mod Bodies
+pub mod Walks
 pub mod Cuts
 pub mod Opening
 pub mod Table

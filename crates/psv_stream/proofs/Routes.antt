@@ -13,10 +13,11 @@ use Rattle.network.specs.declared.NetworkPrefix.{NetworkPrefix}
 use Rattle.elem.specs.Element.{spoilt as spoiltElement}
 use Rattle.elem.specs.declared.Element.{Element}
 use Rattle.network.specs.declared.Asn.{Asn}
-use Rattle.psv.specs.Line.{psv_text, between_text, sequence_text, asn_text, attributes_text, texts_line}
+use Rattle.psv.specs.declared.Attributes.{Attributes}
+use Rattle.psv.specs.Line.{psv_text, between_text, sequence_text, asn_text, texts_line}
 use Rattle.psv.specs.declared.ElementError.{ElementError}
 use Rattle.psv.specs.declared.ElementError.TheVariants.{Spoilt, TooShort}
-use Rattle.psv.proofs.Copied.{copied_line, attributes_same}
+use Rattle.psv.proofs.Copied.{copied_line}
 use Rattle.path_text.specs.Path.{asns_of, put_answer}
 use Rattle.path_text.specs.declared.AsnsError.{AsnsError}
 use Rattle.path_text.specs.declared.AsnsError.TheVariants.{TooFewPlaces}
@@ -112,30 +113,23 @@ module _ (σ : State) (p : NetworkPrefix) (e : RouteEntry) (ns : List ℕ) where
       let both : Bool = rising || not (is_timestamp σ.timestamp) in
       unspoilt (second rising (is_timestamp σ.timestamp) (first both (not (valid_prefix p)) fine)) (second both (valid_prefix p) fine)
 
--- from texts: of the element only its attributes are looked at
+-- from texts, with a route's attributes
 module _ (σ : State) (p : NetworkPrefix) (e : RouteEntry) where
-  module _ (start path : List ℕ) (starts : start ≡ front_of σ ++ between_text p) (o : Option Asn) (y : Element) (made : y ≡ element_of σ p e 0 o) where
-    abbrev element' : Element
-    element' = element_for σ p e (asns_of path)
+  abbrev attributes : Attributes
+  attributes = record { origin = e.origin; next_hop = e.next_hop; local_pref = e.local_pref; metric = e.metric }
 
-    copied_text_lem : copied_text start path y ≡ psv_text element' (asns_of path)
-    unfolding texts_line
-    copied_text_lem =
-        let same : attributes_text y ≡ attributes_text element' =
-        attributes_same y element' (ap (λ (z : Element). z.origin) made) (ap (λ (z : Element). z.next_hop) made) (ap (λ (z : Element). z.local_pref) made) (ap (λ (z : Element). z.metric) made) in
-        rw same
-        (copied_line element' (asns_of path) start (sequence_text (asns_of path)) (asn_text (origin_asn (asns_of path))) (asns_of path) starts refl (sym (take-length (asns_of path))) refl)
-
-  pub copied : (start path : List ℕ) → (0 < length start → start ≡ front_of σ ++ between_text p) → (length start ≡ 0 → ⊥) → (o : Option Asn) (y : Element) → y ≡ element_of σ p e 0 o
-      → Fine σ (remembered.Valid p) → (out new : List ℕ) (r : Option ℕ) → Copies start path y out new r → PutCopy σ p e (asns_of path) out new r
-  copied start path starts some o y made fine out new = go
+  pub copied : (start path : List ℕ) → (0 < length start → start ≡ front_of σ ++ between_text p) → (length start ≡ 0 → ⊥) → Fine σ (remembered.Valid p)
+      → (out new : List ℕ) (r : Option ℕ) → Copies start path attributes out new r → PutCopy σ p e (asns_of path) out new r
+  unfolding texts_line
+  copied start path starts some fine out new = go
     where
-      text : copied_text start path y ≡ psv_text (element_for σ p e (asns_of path)) (asns_of path)
-      text = copied_text_lem start path (starts (omega (arith, some))) o y made
+      text : copied_text start path attributes ≡ psv_text (element_for σ p e (asns_of path)) (asns_of path)
+      text =
+          copied_line (element_for σ p e (asns_of path)) (asns_of path) start (sequence_text (asns_of path)) (asn_text (origin_asn (asns_of path))) (asns_of path) (starts (omega (arith, some))) refl (sym (take-length (asns_of path))) refl
 
-      go : (r : Option ℕ) → Copies start path y out new r → PutCopy σ p e (asns_of path) out new r
+      go : (r : Option ℕ) → Copies start path attributes out new r → PutCopy σ p e (asns_of path) out new r
       go (Some w) h =
-          let short : leb (length (psv_text (element_for σ p e (asns_of path)) (asns_of path))) 65536 ≡ true = rw text at (le-leb (length (copied_text start path y)) 65536 h.1) in
+          let short : leb (length (psv_text (element_for σ p e (asns_of path)) (asns_of path))) 65536 ≡ true = rw text at (le-leb (length (copied_text start path attributes)) 65536 h.1) in
           (λ n u. rw (le-leb (length (asns_of path)) 16384 h.0, fine_element σ p e (asns_of path) fine, short), rw text at h.2)
       go None h = h
 

@@ -62,6 +62,9 @@ module _ (p₀ : Phase) (s : List ℕ) (ended : Bool) (out₀ : List ℕ) (p : P
     pub same_new : length part ≡ length room → length new ≡ length out₀
     same_new h = rw new_is (rw length-append (omega (arith, size, room_length, came.written, came.same)))
 
+    pub left_output : part ≡ room → new ≡ out
+    left_output h = new_is ∙ rw (h, room_is) (take-append-drop w out)
+
     -- there is no room for another line
     module _ (none : (length room < 65537) × (part ≡ room)) where
       pub same_out : new ≡ out
@@ -69,9 +72,6 @@ module _ (p₀ : Phase) (s : List ℕ) (ended : Bool) (out₀ : List ℕ) (p : P
 
       pub little_left : length out₀ - w < 65537
       little_left = omega (arith, none.0, room_length, came.same)
-
-      pub full : Runs p₀ s ended out₀ (here false) new
-      full = rw same_out (runs false (λ e. absurd (false≢true e)) (λ e. inr little_left))
 
     module _ (r : Step Phase) (known : Steps p left ended room part r) where
       steps : Steps p (drop c s) ended (drop w out) part r
@@ -87,9 +87,6 @@ module _ (p₀ : Phase) (s : List ℕ) (ended : Bool) (out₀ : List ℕ) (p : P
 
         pub within : w + v ≤ length out₀
         within = omega (arith, took.2, length-drop w out, came.written, came.same)
-
-        pub fewer : length s - (c + d + header_bytes q) < length s - (c + header_bytes p)
-        fewer = omega (arith, took.0, took.1, length-drop c s, came.consumed)
 
         pub takes : length part ≡ length room → Came p₀ s ended out₀ q (c + d) (w + v) new
         takes h =
@@ -146,44 +143,6 @@ module _ (p₀ : Phase) (s : List ℕ) (ended : Bool) (out₀ : List ℕ) (p : P
           wants_room = λ e. ⊎_elim (λ f. inl f) (λ h. inr (omega (arith, h, length-drop w out, came.same))) (known.wants_room e);
         }
 
--- the loop over the head: it goes on, with what it has so far
-module _ (p₀ : Phase) (s : List ℕ) (ended : Bool) (out₀ : List ℕ) (r : Ran) (out : List ℕ) (came : Came p₀ s ended out₀ r.phase r.consumed r.written out) (going : r.starved ≡ false) where
-  no_input : {A : Type 0} → r.starved ≡ true → A
-  no_input e = absurd (false≢true (sym going ∙ e))
-
-  -- the head is over
-  pub at_body : (b : Bool) → b ≡ is_head r.phase → b ≡ false → Heads p₀ s ended out₀ r out
-  at_body b k f = record { came = came; wants_input = λ e. no_input e; wants_room = λ e g. absurd (false≢true (sym f ∙ k ∙ g)) }
-
-  -- there is no room for another line
-  pub head_full : (part : List ℕ) → (length (room p₀ s ended out₀ r.phase r.consumed r.written out came) < 65537) × (part ≡ room p₀ s ended out₀ r.phase r.consumed r.written out came)
-      → Heads p₀ s ended out₀ r (new p₀ s ended out₀ r.phase r.consumed r.written out came part)
-  head_full part none =
-      rw (same_out p₀ s ended out₀ r.phase r.consumed r.written out came part none)
-      (record { came = came; wants_input = λ e. no_input e; wants_room = λ e f. little_left p₀ s ended out₀ r.phase r.consumed r.written out came part none })
-
-  module _ (part : List ℕ) (z : Step Phase) (known : Steps r.phase (left p₀ s ended out₀ r.phase r.consumed r.written out came) ended (room p₀ s ended out₀ r.phase r.consumed r.written out came) part z) where
-    abbrev after : List ℕ
-    after = new p₀ s ended out₀ r.phase r.consumed r.written out came part
-
-    pub head_starves : z ≡ step.Starved → Heads p₀ s ended out₀ (record { phase = r.phase; consumed = r.consumed; written = r.written; starved = true }) after
-    head_starves f =
-        record {
-          came = starves p₀ s ended out₀ r.phase r.consumed r.written out came part z known f;
-          wants_input = λ e. starved p₀ s ended out₀ r.phase r.consumed r.written out came part z known f;
-          wants_room = λ e. absurd (false≢true (sym e));
-        }
-
-    pub head_stops : (v : ℕ) → z ≡ step.Stops v → length part ≡ length (room p₀ s ended out₀ r.phase r.consumed r.written out came)
-        → (q : Ran) → q ≡ record { phase = Stopped; consumed = r.consumed; written = r.written + v; starved = false } → Heads p₀ s ended out₀ q after
-    head_stops v f h q e =
-        rw e
-        (record {
-          came = stops p₀ s ended out₀ r.phase r.consumed r.written out came part z known v f h;
-          wants_input = λ g. absurd (false≢true g);
-          wants_room = λ g i. absurd (false≢true i);
-        })
-
 -- the head is what a run is, unless the body has begun
 module _ (p₀ : Phase) (s : List ℕ) (ended : Bool) (out₀ : List ℕ) (h : Ran) (out : List ℕ) (known : Heads p₀ s ended out₀ h out) (b : Bool) (told : b ≡ is_head h.phase) where
   pub runs_head : b ≡ true → Runs p₀ s ended out₀ h out
@@ -216,6 +175,3 @@ module _ (p₀ : Phase) (s : List ℕ) (ended : Bool) (out₀ : List ℕ) (h : R
 
     pub sum_within : h.written + r.written ≤ length out₀
     sum_within = runs_on.written
-
--- for the loop over the head
-pub ruleset head_laws = (room_length, same_new, inside, within, stops_within)

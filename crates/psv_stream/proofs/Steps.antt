@@ -1,7 +1,6 @@
 -- A line taken from the front of the bytes at hand: what is printed, and what is then to come, whatever comes later.
 use Rattle.std.proofs.Common.{◌≡◌, ℕ, ◌+◌, ◌-◌, ◌<◌, ◌≤◌, Bool, true, false, List, [], ◌∷◌, ◌++◌, length, take, drop, sym, refl, ap, ◌∙◌, append-nil, arith, length-append, length-drop, take-append-drop, length-take, take-take, drop-drop, take-add, le-ltb, lt-ltb}
 use Rattle.std.proofs.lemmas.List.{drop-take}
-use Rattle.std.specs.Array.{IsFirstChunk}
 use lib.Seq.{drop-append-le, take-append-le}
 use Rattle.scan.specs.Lines.{lines, line_end}
 use Rattle.scan.proofs.LineLaws.{line_at, line_end_inside, line_end_after, no_lines}
@@ -11,7 +10,7 @@ use Rattle.input.specs.declared.Front.TheVariants as front
 use Rattle.psv_stream.specs.Printed.{header, stopped, on_line, at_end, printed_from}
 use Rattle.psv_stream.specs.Printed as P
 use Rattle.psv_stream.specs.Run.{header_bytes, stage_of, rest}
-use Rattle.psv_stream.specs.Parts.{Puts, acts, Ends, long_text, TooLong, Does, Steps}
+use Rattle.psv_stream.specs.Parts.{Puts, acts, Ends, long_text, TooLong, Does, Steps, HeadSteps}
 use Rattle.psv_stream.specs.declared.Phase.{Phase}
 use Rattle.psv_stream.specs.declared.Phase.TheVariants.{Path, Header, Body, Stopped}
 use Rattle.psv_stream.specs.declared.Step.{Step}
@@ -84,6 +83,7 @@ module _ (p : Phase) (s : List ℕ) (ended : Bool) (out new : List ℕ) where
       λ later none. rw (put_text (acts p (take e s)).0 out new w d.0) (line_rest later none ∙ rw (d.1, stopped_rest, rest_stopped)),
     )
     does_steps step.Starved d = absurd d
+    does_steps step.Leaves d = absurd d
 
   -- the last text
   last_steps : (text : List ℕ) → ((later : List ℕ) → Later ended later → rest p (s ++ later) ≡ text) → (w : ℕ) → Puts text out new w → Steps p s ended out new (step.Stops w)
@@ -155,10 +155,10 @@ module _ (p : Phase) (s : List ℕ) (ended : Bool) (at : ℕ) (here : at ≡ hea
     end_steps w g = nothing_steps p s ended out new (rw g at here_known) w
 
 -- what is written to the first n bytes of the output, is written to the output
-module _ (p : Phase) (s : List ℕ) (ended : Bool) (out room new : List ℕ) (n : ℕ) (front : IsFirstChunk out room n) (size : length (new ++ drop n out) ≡ length out) where
+module _ (p : Phase) (s : List ℕ) (ended : Bool) (out room new : List ℕ) (n : ℕ) (front : room ≡ take n out) (size : length (new ++ drop n out) ≡ length out) where
   wider : (w : ℕ) → w ≤ length room → drop w new ≡ drop w room → (w ≤ length out) × (drop w (new ++ drop n out) ≡ drop w out) × (take w (new ++ drop n out) ≡ take w new)
   wider w h k =
-      let whole : room ++ drop n out ≡ out = rw front.same (take-append-drop n out) in
+      let whole : room ++ drop n out ≡ out = rw front (take-append-drop n out) in
       let same : length new ≡ length room = omega (arith, size, length-append new (drop n out), ap length whole, length-append room (drop n out)) in (
         omega (arith, ap length whole, length-append room (drop n out)),
         drop-append-le w new (drop n out) (omega arith) ∙ ap (λ (x : List ℕ). x ++ drop n out) k ∙ sym (drop-append-le w room (drop n out) h) ∙ ap (drop w) whole,
@@ -168,7 +168,15 @@ module _ (p : Phase) (s : List ℕ) (ended : Bool) (out room new : List ℕ) (n 
   pub steps_wider : (r : Step Phase) → Steps p s ended room new r → Steps p s ended out (new ++ drop n out) r
   steps_wider (step.Took c w q) h = let z = wider w h.2 h.3 in (h.0, h.1, z.0, z.1, rw z.2 h.4)
   steps_wider (step.Stops w) h = let z = wider w h.0 h.1 in (z.0, z.1, rw z.2 h.2)
-  steps_wider step.Starved h = (rw (h.0, front.same) (take-append-drop n out), h.1)
+  steps_wider step.Starved h = (rw (h.0, front) (take-append-drop n out), h.1)
+  steps_wider step.Leaves h = absurd h
+
+-- a line of the head
+pub head_steps : (p : Phase) (s : List ℕ) (ended : Bool) (out new : List ℕ) (r : Step Phase) → Steps p s ended out new r → HeadSteps p s ended out new r
+head_steps p s ended out new (step.Took c w q) h = h
+head_steps p s ended out new (step.Stops w) h = h
+head_steps p s ended out new step.Starved h = h
+head_steps p s ended out new step.Leaves h = absurd h
 
 -- for a line of the head
 pub ruleset line_laws = (line_inside, starved_steps, line_steps)

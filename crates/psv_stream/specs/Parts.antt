@@ -6,6 +6,7 @@ use Rattle.decimal.specs.Decimal.{leading}
 use Rattle.network.specs.declared.NetworkPrefix.{NetworkPrefix}
 use Rattle.elem.specs.Element.{spoilt as spoiltElement}
 use Rattle.elem.specs.declared.Element.{Element}
+use Rattle.psv.specs.declared.Attributes.{Attributes}
 use Rattle.psv.specs.Line.{psv_text, front_text, between_text, sequence_text, asn_text, texts_line}
 use Rattle.psv.specs.declared.ElementError.{ElementError}
 use Rattle.psv.specs.declared.ElementError.TheVariants.{Spoilt, TooShort}
@@ -96,20 +97,21 @@ IsPlain path (Some (last, end)) = Spells path last end
 IsPlain path None = Unit {0}
 
 -- texts_line (psv: specs/Line.antt) of the texts that the path's numbers print as
-abbrev pub copied_text : List ℕ → List ℕ → Element → List ℕ
-copied_text start path e = texts_line start (sequence_text (asns_of path)) (asn_text (origin_asn (asns_of path))) e
+abbrev pub copied_text : List ℕ → List ℕ → Attributes → List ℕ
+copied_text start path a = texts_line start (sequence_text (asns_of path)) (asn_text (origin_asn (asns_of path))) a
 
--- a route's line put together from texts: its start, the path as its numbers print, the last of them, and the attributes of e; where it is not, nothing is written
-abbrev pub Copies : List ℕ → List ℕ → Element → List ℕ → List ℕ → Option ℕ → Type 0
-Copies start path e out new (Some w) =
-    (length (asns_of path) ≤ 16384) × (length (copied_text start path e) ≤ 65536) × Puts (copied_text start path e ++ feed) out new w
-Copies start path e out new None = new ≡ out
+-- a route's line put together from texts: start, the path as its numbers print, the last of them, and the attributes; where it is not, nothing is written
+abbrev pub Copies : List ℕ → List ℕ → Attributes → List ℕ → List ℕ → Option ℕ → Type 0
+Copies start path a out new (Some w) =
+    (length (asns_of path) ≤ 16384) × (length (copied_text start path a) ≤ 65536) × Puts (copied_text start path a ++ feed) out new w
+Copies start path a out new None = new ≡ out
 
 -- a line's text l does what z says: of it are c bytes consumed, and the others are of header lines that have come
 abbrev pub Does : P.Step → List ℕ → List ℕ → List ℕ → Step Phase → Type 0
 Does z l out new (step.Took c w q) = Puts z.0 out new w × (z.1 ≡ stage_of q (drop c l)) × (c + header_bytes q ≡ length l)
 Does z l out new (step.Stops w) = Puts z.0 out new w × (z.1 ≡ stopped)
 Does z l out new step.Starved = ⊥
+Does z l out new step.Leaves = ⊥
 
 -- whatever comes later
 abbrev pub Steps : Phase → List ℕ → Bool → List ℕ → List ℕ → Step Phase → Type 0
@@ -117,11 +119,14 @@ Steps p s ended out new (step.Took c w q) =
     (header_bytes p < c + header_bytes q) × (c + header_bytes q ≤ length s) × (w ≤ length out) × (drop w new ≡ drop w out) × Prints ended p s (take w new) q (drop c s)
 Steps p s ended out new (step.Stops w) = (w ≤ length out) × (drop w new ≡ drop w out) × Prints ended p s (take w new) Stopped []
 Steps p s ended out new step.Starved = (new ≡ out) × Starved s (header_bytes p) ended
+Steps p s ended out new step.Leaves = ⊥
 
--- a line is taken where the output has room for what it may print
-abbrev pub IfRoom : {P : Type 0} → (List ℕ → List ℕ → Step P → Type 0) → List ℕ → List ℕ → Option (Step P) → Type 0
-IfRoom R out new (Some r) = R out new r
-IfRoom R out new None = (length out < 65537) × (new ≡ out)
+-- the same in the loop over the head, which leaves where the body begins
+abbrev pub HeadSteps : Phase → List ℕ → Bool → List ℕ → List ℕ → Step Phase → Type 0
+HeadSteps p s ended out new (step.Took c w q) = Steps p s ended out new (step.Took c w q)
+HeadSteps p s ended out new (step.Stops w) = Steps p s ended out new (step.Stops w)
+HeadSteps p s ended out new step.Starved = Steps p s ended out new step.Starved
+HeadSteps p s ended out new step.Leaves = (new ≡ out) × (is_head p ≡ false)
 
 -- from p₀, with the input s and the output out₀, the lines taken have come to p, with c bytes consumed and w written to what is now out
 pub record Came (p₀ : Phase) (s : List ℕ) (ended : Bool) (out₀ : List ℕ) (p : Phase) (c w : ℕ) (out : List ℕ) : Type 0 where
@@ -192,6 +197,7 @@ abbrev pub step_of : State → Step Cursor → Step Phase
 step_of σ (step.Took c w b) = step.Took c w (phase_of σ b)
 step_of σ (step.Stops w) = step.Stops w
 step_of σ step.Starved = step.Starved
+step_of σ step.Leaves = step.Leaves
 
 -- whatever comes later, of a step of that loop
 abbrev pub BodySteps : State → Cursor → List ℕ → Bool → List ℕ → List ℕ → Step Cursor → Type 0
@@ -211,6 +217,7 @@ abbrev pub Keeps : State → List ℕ → ℕ → Step Cursor → Type 0
 Keeps σ start n (step.Took c w b) = Kept σ start n b
 Keeps σ start n (step.Stops w) = Unit {0}
 Keeps σ start n step.Starved = Unit {0}
+Keeps σ start n step.Leaves = Unit {0}
 
 -- what a line does that is not too long
 abbrev pub BodyDoes : State → Cursor → List ℕ → List ℕ → List ℕ → Step Cursor → Type 0

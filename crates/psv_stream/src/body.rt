@@ -1,5 +1,5 @@
 // The body: the lines under the column header, one after another.
-ghost use Rattle.std.specs.Prelude.{◌≡◌, ℕ, List, [], ◌∷◌, IfSome};
+ghost use Rattle.std.specs.Prelude.{◌≡◌, ℕ, List, [], ◌∷◌};
 ghost use Rattle.scan.specs.Lines.{lines};
 ghost use Rattle.text_dump_line.specs.Line.{line_of};
 ghost use Rattle.text_dump_line.specs.declared.Line.TheVariants as read;
@@ -7,11 +7,12 @@ ghost use Rattle.text_dump.specs.declared.Remembered.TheVariants as remembered;
 ghost use Rattle.packed.specs.Packed.{remembered_in};
 ghost use Rattle.psv_stream.specs.Refusal.{number};
 ghost use Rattle.psv_stream.specs.Run.{Runs};
-ghost use Rattle.psv_stream.specs.Parts.{front_of, Fine, Starts, kept_len, Kept, BodyDoes, Keeps, phase_of, BodySteps, IfRoom};
+ghost use Rattle.psv_stream.specs.Parts.{front_of, Fine, Starts, kept_len, Kept, BodyDoes, Keeps, phase_of, BodySteps};
 ghost use Rattle.psv_stream.specs.declared.Phase.TheVariants as phase;
 ghost use Rattle.psv_stream.specs.declared.Step.TheVariants as step;
 
 use crate::route::print_route;
+use crate::walk::{End, Taken, take_lines};
 use crate::{LINE, PLACES, Phase, Ran, Refusal, Step, refuse, stopped};
 use input::Front;
 use network::NetworkPrefix;
@@ -230,45 +231,25 @@ fn take_body_line(
     }
 }
 
-// Takes the next line of the body, if there is room for what it may print.
-#[inline(always)]
-fn next_body_line(
-    buffers: &mut Buffers,
-    state: State,
-    cursor: Cursor,
-    input: &[u8],
-    ended: bool,
-    out: &mut [u8],
-) -> Option<Step<Cursor>>
-    requires { Kept state buffers.old.start buffers.old.front_len cursor }
-    ensures steps { IfRoom (BodySteps state cursor input.now ended) out.old out.new result }
-    ensures keeps { IfSome result (Keeps state buffers.new.start buffers.new.front_len) }
-{
-    let room = out.first_chunk_mut::<LINE>()?;
-    Some(take_body_line(buffers, state, cursor, input, ended, room))
-}
-
 // A run that ends in the body.
 #[tactic(auto, using(crate::proofs::Bodies::ran))]
-fn body_ran(state: State, cursor: Cursor, consumed: usize, written: usize, starved: bool) -> Ran
-    ensures { result ≡ record { phase = phase_of state cursor; consumed = consumed; written = written; starved = starved } }
+fn body_ran(state: State, taken: Taken<Cursor>, starved: bool) -> Ran
+    ensures { result ≡ record { phase = phase_of state taken.place; consumed = taken.consumed; written = taken.written; starved = starved } }
 {
+    let cursor = taken.place;
     let remembered = packed::unpack(cursor.memory);
     Ran {
         phase: Phase::Body {
             state: state.moved(cursor.position, remembered),
             lines: cursor.number,
         },
-        consumed,
-        written,
+        consumed: taken.consumed,
+        written: taken.written,
         starved,
     }
 }
 
 // Takes lines of the body as long as there is a whole one, and room for what it may print.
-// Stays a loop of its own: a trait for both (the phase of a place, what holds before a line,
-// whether the next line is of this part, a step) and its two impls have more lines than both loops.
-#[tactic(auto, using(crate::proofs::Bodies::body_laws))]
 fn take_body(
     buffers: &mut Buffers,
     state: State,
@@ -281,32 +262,22 @@ fn take_body(
     requires starts { Starts (front_of state) buffers.old.start buffers.old.front_len state.remembered 0 }
     ensures { Runs (phase.Body state number) input.now ended out.old result out.new }
 {
-    let mut cursor = Cursor::new(state, number);
-    let mut consumed = 0;
-    let mut written = 0;
-    while let Some(step) = next_body_line(
-        buffers,
-        state,
-        cursor,
-        &input[consumed..],
-        ended,
-        &mut out[written..],
-    ) {
-        match step {
-            Step::Starved => return body_ran(state, cursor, consumed, written, true),
-            Step::Stops(n) => return stopped(consumed, written + n),
-            Step::Took {
-                consumed: bytes,
-                written: n,
-                next,
-            } => {
-                cursor = next;
-                consumed += bytes;
-                written += n;
-            }
-        }
+    let first = Cursor::new(state, number);
+    let taken = take_lines(
+        first,
+        input,
+        out,
+        move |cursor, rest, room|
+            requires { Kept state buffers.now.start buffers.now.front_len cursor }
+            ensures steps { BodySteps state cursor rest.now ended room.old room.new result }
+            ensures keeps { Keeps state buffers.exit.now.start buffers.exit.now.front_len result }
+        { take_body_line(buffers, state, cursor, rest, ended, room) },
+    );
+    match taken.end {
+        End::Full | End::Left => body_ran(state, taken, false),
+        End::Starved => body_ran(state, taken, true),
+        End::Stopped => stopped(taken.consumed, taken.written),
     }
-    body_ran(state, cursor, consumed, written, false)
 }
 
 // A run from the body on. The front of its lines is printed once, and the field of a prefix once

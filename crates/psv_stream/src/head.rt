@@ -6,8 +6,9 @@ ghost use Rattle.text_dump.specs.Open.{open_of};
 ghost use Rattle.psv_stream.specs.Printed.{feed, dated, scanned};
 ghost use Rattle.psv_stream.specs.Refusal.{number};
 ghost use Rattle.psv_stream.specs.Run.{header_bytes};
-ghost use Rattle.psv_stream.specs.Parts.{acts, is_head, Puts, Ends, TooLong, Does, Steps, IfRoom, Heads};
+ghost use Rattle.psv_stream.specs.Parts.{acts, is_head, Puts, Ends, TooLong, Does, Steps, HeadSteps, Heads};
 
+use crate::walk::{End, take_lines};
 use crate::{LINE, Phase, Ran, Refusal, Step, refuse, stopped};
 use input::Front;
 use output::Writer;
@@ -161,52 +162,38 @@ fn take_line(phase: Phase, input: &[u8], ended: bool, out: &mut [u8; LINE]) -> S
     }
 }
 
-// Takes the next line of the head, if there is room for what it may print.
+// Takes the next line, if it is of the head.
+#[tactic(auto, using(crate::proofs::Steps::head_steps))]
 #[inline(always)]
-fn next_line(phase: Phase, input: &[u8], ended: bool, out: &mut [u8]) -> Option<Step<Phase>>
-    requires { is_head phase ≡ true }
-    ensures { IfRoom (Steps phase input.now ended) out.old out.new result }
+fn head_step(phase: Phase, input: &[u8], ended: bool, out: &mut [u8; LINE]) -> Step<Phase>
+    ensures { HeadSteps phase input.now ended out.old out.new result }
 {
-    let room = out.first_chunk_mut::<LINE>()?;
-    Some(take_line(phase, input, ended, room))
+    if !is_head(phase) {
+        return Step::Leaves;
+    }
+    take_line(phase, input, ended, out)
 }
 
 // Takes lines of the head as long as there is a whole one, and room for what it may print.
-#[tactic(auto, using(crate::proofs::Runs::head_laws))]
 pub(crate) fn take_head(phase: Phase, input: &[u8], ended: bool, out: &mut [u8]) -> Ran
     ensures { Heads phase input.now ended out.old result out.new }
 {
-    let mut ran = Ran {
-        phase,
-        consumed: 0,
-        written: 0,
-        starved: false,
-    };
-    // Stays a while: the head ends at the line that opens the table, which no iterator over the
-    // input says.
-    while is_head(ran.phase) {
-        let rest = &mut out[ran.written..];
-        let Some(step) = next_line(ran.phase, &input[ran.consumed..], ended, rest) else {
-            return ran;
-        };
-        match step {
-            Step::Starved => {
-                return Ran {
-                    starved: true,
-                    ..ran
-                };
-            }
-            Step::Stops(n) => return stopped(ran.consumed, ran.written + n),
-            Step::Took {
-                consumed,
-                written,
-                next,
-            } => {
-                ran.phase = next;
-                ran.consumed += consumed;
-                ran.written += written;
-            }
-        }
+    let taken = take_lines(phase, input, out, move |phase, rest, room| {
+        head_step(phase, rest, ended, room)
+    });
+    match taken.end {
+        End::Full | End::Left => Ran {
+            phase: taken.place,
+            consumed: taken.consumed,
+            written: taken.written,
+            starved: false,
+        },
+        End::Starved => Ran {
+            phase: taken.place,
+            consumed: taken.consumed,
+            written: taken.written,
+            starved: true,
+        },
+        End::Stopped => stopped(taken.consumed, taken.written),
     }
-    ran
 }

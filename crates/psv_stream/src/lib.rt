@@ -5,6 +5,7 @@
 mod body;
 mod head;
 mod route;
+mod walk;
 
 ghost use Rattle.std.specs.Prelude.{◌≡◌, false};
 ghost use Rattle.psv_stream.specs.Printed.{refusal_text};
@@ -105,11 +106,11 @@ impl From<ElementError> for Refusal {
     }
 }
 
-// What a line comes to; P is a Phase in the head and a Cursor in the body. The numbers come first,
-// so that each stands at the same place in every variant.
+// What a line comes to; P, its place, is a Phase in the head and a Cursor in the body. The numbers
+// come first, so that each stands at the same place in every variant.
 #[derive(Clone, Copy)]
 enum Step<P> {
-    // The line is taken, and the next one is taken from `next`.
+    // The line is taken, and `next` is the place of the one after it.
     Took {
         consumed: usize,
         written: usize,
@@ -119,6 +120,8 @@ enum Step<P> {
     Stops(usize),
     // There is no whole line yet.
     Starved,
+    // The line is of another part.
+    Leaves,
 }
 
 // How far a run came: the new phase, how many bytes of the input are consumed and how many of the

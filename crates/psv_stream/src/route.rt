@@ -10,7 +10,7 @@ use crate::{LINE, PLACES, Refusal, TEXT};
 use elem::Element;
 use network::NetworkPrefix;
 use output::Writer;
-use psv::ElementError;
+use psv::{Attributes, ElementError};
 use text_dump::State;
 use text_dump_line::RouteEntry;
 
@@ -87,14 +87,26 @@ fn plain_path(path: &[u8]) -> Option<(usize, usize)>
 
 // The line of a route whose path is plain, with a line feed, after what the line begins with; None,
 // and nothing written, where the path is not plain or the line not surely short enough.
-fn copy_route(start: &[u8], path: &[u8], e: Element, out: &mut [u8; LINE]) -> Option<usize>
-    ensures { Copies start.now path.now e out.old out.new result }
+fn copy_route(
+    start: &[u8],
+    path: &[u8],
+    attributes: Attributes,
+    out: &mut [u8; LINE],
+) -> Option<usize>
+    ensures { Copies start.now path.now attributes out.old out.new result }
 {
     if PLACES < path.len() {
         return None;
     }
     let (last, end) = plain_path(path)?;
-    let at = psv::put_texts(start, &path[..end], &path[last..end], e, &mut out[..TEXT]).ok()?;
+    let at = psv::put_texts(
+        start,
+        &path[..end],
+        &path[last..end],
+        attributes,
+        &mut out[..TEXT],
+    )
+    .ok()?;
     let mut w = Writer { out, at };
     w.byte(b'\n');
     Some(w.at)
@@ -116,8 +128,13 @@ fn copy_behind(
     if start.len() == 0 {
         return None;
     }
-    let e = state.element(prefix, entry, 0, None);
-    copy_route(start, path, e, out)
+    let attributes = Attributes {
+        origin: entry.origin,
+        next_hop: entry.next_hop,
+        local_pref: entry.local_pref,
+        metric: entry.metric,
+    };
+    copy_route(start, path, attributes, out)
 }
 
 // A route's line: copied where it can be, else by the numbers of its path.

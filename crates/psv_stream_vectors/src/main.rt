@@ -1,9 +1,9 @@
 // Runs the cases of `psv_stream` (data/cases.txt) and prints a line for each group.
 //
 // A question is the least size of the pieces in which the input comes, the input, and what is to be
-// printed. Both texts are in hexadecimal, in parts with commas between them; after a part, `*` and a
-// number repeat it. Each input comes in pieces of that size, of 3 times and 64 times that size, and
-// whole; of the output, no more is lent at first than a run asks for.
+// printed. Both texts are in hexadecimal, in parts with commas between them; after a part, `*` and
+// a number repeat it. Each input comes in pieces of that size, of 3 times and 64 times that size,
+// and whole; of the output, no more is lent at first than a run asks for.
 #![tactic(auto)]
 
 use cases::{Answer, Program};
@@ -46,7 +46,7 @@ fn put_part(s: &[u8], w: &mut Writer) {
 }
 
 fn expand(s: &[u8], out: &mut [u8]) -> usize {
-    let mut w = Writer { out, at: 0 };
+    let mut w = Writer::new(out);
     for part in s.split(|b| *b == b',') {
         put_part(part, &mut w);
     }

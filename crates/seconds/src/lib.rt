@@ -33,18 +33,11 @@ fn whole_number(x: f64) -> Option<u64>
 pub fn second_of(t: f64) -> Option<u64>
     ensures { result ≡ second_of t }
 {
-    // Stays two halves: they differ in the sign, the limit and the operation.
     if t < 0.0 {
-        match whole_number(-t) {
-            Some(n) if n <= EPOCH => Some(EPOCH - n),
-            _ => None,
-        }
-    } else {
-        match whole_number(t) {
-            Some(n) if n <= LAST => Some(EPOCH + n),
-            _ => None,
-        }
+        return EPOCH.checked_sub(whole_number(-t)?);
     }
+    let n = whole_number(t)?;
+    if n <= LAST { Some(EPOCH + n) } else { None }
 }
 
 pub fn is_timestamp(t: f64) -> bool

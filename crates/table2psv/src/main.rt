@@ -1,13 +1,13 @@
-// Reads a path line and a listing from standard input, and prints the PSV lines of its elements (01,
-// the program table2psv).
+// Reads a path line and a listing from standard input, and prints the PSV lines of its elements
+// (01, the program table2psv).
 #![tactic(auto)]
 
 use psv_stream::Phase;
 use std::io;
 use std::io::{ErrorKind, Read};
 
-// What is kept from turn to turn: the phase, how many bytes of the input are there, whether more are
-// wanted, and whether there are no more.
+// What is kept from turn to turn: the phase, how many bytes of the input are there, whether more
+// are wanted, and whether there are no more.
 #[derive(Clone, Copy)]
 struct Turn {
     phase: Phase,

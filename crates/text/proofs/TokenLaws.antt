@@ -127,5 +127,25 @@ walk s i a b e = go (trim_start (drop i s)) refl e
         let of : (Option (ℕ × ℕ) → ℕ × ℕ) = λ (w : Option (ℕ × ℕ)). unwrap_or w (0, 0) in
         walked s (x ∷ t) i f (omega arith) a b (sym (ap (λ w. (of w).0) e)) (sym (ap (λ w. (of w).1) e))
 
+-- what the iterator uses
+module _ (s : List ℕ) (i : ℕ) (w : Option (ℕ × ℕ)) (q : w ≡ next_token s i) where
+  pub none_left : w ≡ None → tokens (drop i s) ≡ []
+  none_left f = walk_end s i (sym q ∙ f)
+
+  module _ (a e : ℕ) (f : w ≡ Some (a, e)) where
+    lies : Walk s i a e
+    lies = walk s i a e (sym q ∙ f)
+
+    pub next_order : a ≤ e
+    next_order = omega (arith, lies.some_byte)
+
+    pub next_inside : e ≤ length s
+    next_inside = lies.inside
+
+    pub one_less : tokens (drop i s) ≡ take (e - a) (drop a s) ∷ tokens (drop e s)
+    one_less = lies.step
+
+pub ruleset left_laws = (none_left, next_order, next_inside, one_less)
+
 -- what the search for the next token uses
 pub ruleset next_laws = (token_past, token_none, rest_length, token_found)

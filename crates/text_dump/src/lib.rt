@@ -219,8 +219,8 @@ impl State {
 
     // Passes lines until one yields. The state is that after the element's line or at the part's
     // end, and in a refusal the one that was handed in. An element's AS numbers stand in the lent
-    // list from place 0 on. Kept in one function: the enum that the loop would answer has variants
-    // that differ in layout, and is copied in memory.
+    // list from place 0 on. The loop is no function of its own: its answer, an enum with a route in
+    // one of its variants, would be written to memory and read again at each element.
     #[tactic(auto, using(crate::proofs::NextLaws::next_laws))]
     pub fn next(self, part: &[u8], asns: &mut [u32]) -> (State, Result<Option<Element>, NextError>)
         ensures { Answers (next_of self part.now (length asns.old)) asns.old result asns.new }

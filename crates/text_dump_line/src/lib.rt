@@ -28,6 +28,7 @@ pub struct RouteEntry {
     pub next_hop: IpAddr,
     pub metric: Option<u32>,
     pub local_pref: Option<u32>,
+    // Stays two places and no slice: 01 has texts as lent parts with positions.
     pub path_start: usize,
     pub path_end: usize,
     pub origin: Option<Origin>,

@@ -1,37 +1,45 @@
 -- A shape compared byte by byte, and the bytes behind a place. Assumes nothing.
-use mathlib.Core.Path.{◌≡◌, refl, sym, ap, ◌∙◌}
-use mathlib.Core.Bool.{Bool, true, false, not, ◌&&◌}
-use borrow.Author.Tests.{not-true, not-false}
-use mathlib.Core.List.{List}
+use mathlib.Core.Path.{◌≡◌, refl, sym, ◌∙◌}
+use mathlib.Core.Bool.{Bool, true, false, ◌&&◌}
+use mathlib.Core.List.{List, [], ◌∷◌}
 use Prim.Native.Nat.{ℕ, zero, suc, ◌+◌, ◌-◌, ◌*◌, ◌≤◌, ◌<◌}
-use native.Mathlib.Numerals.{add-one}
 use native.Mathlib.Omega.{arith}
-use lib.ListN.{length, get_or, take, drop, length-drop, drop_of_length-le}
-use lib.Seq.{drop-cons, take_all}
+use lib.ListN.{length, get_or, take, drop, length-drop}
+use lib.Seq.{take_all}
 use Rattle.decimal.specs.Decimal.{is_digit}
 use Rattle.timestamp.specs.Dates.{fits, has_shape, digit_before, two, date_of}
 
--- the shape and the text from the place i on: what is behind it decides
-module _ (shape s : List ℕ) (i : ℕ) (e : has_shape shape s ≡ has_shape (drop i shape) (drop i s)) where
-  pub shape_end : length shape ≤ i → true ≡ has_shape shape s
-  unfolding has_shape
-  shape_end h = sym (e ∙ rw (drop_of_length-le shape h))
+-- a text that is too short has no shape
+pub shape_short : (shape s : List ℕ) → length s < length shape → false ≡ has_shape shape s
+unfolding has_shape
+shape_short [] s h = absurd (let f : ⊥ = omega arith in f)
+shape_short (p ∷ shape) [] h = refl
+shape_short (p ∷ shape) (b ∷ s) h = go (fits p b) (shape_short shape s (omega arith))
+  where
+    go : (x : Bool) → false ≡ has_shape shape s → false ≡ (x && has_shape shape s)
+    go true e = e
+    go false e = refl
 
-  pub shape_short : i < length shape → length s ≤ i → false ≡ has_shape shape s
-  unfolding has_shape
-  shape_short h k = sym (e ∙ rw (drop-cons shape i 0 h, drop_of_length-le s k))
+-- what is left of the shape and of the text decides
+abbrev pub Ahead : (shape s left rest : List ℕ) → Type 0
+Ahead shape s left rest = (has_shape shape s ≡ has_shape left rest) × (length left ≤ length rest)
 
-  module _ (h : i < length shape) (k : i < length s) where
-    step : has_shape shape s ≡ fits (get_or shape i 0) (get_or s i 0) && has_shape (drop (i + 1) shape) (drop (i + 1) s)
+module _ (shape s : List ℕ) where
+  module _ (left rest l r : List ℕ) (p b : ℕ) (at : Ahead shape s left rest) (one : left ≡ p ∷ l) (two : rest ≡ b ∷ r) (x : Bool) (is : x ≡ fits p b) where
+    step : has_shape shape s ≡ (x && has_shape l r)
     unfolding has_shape
-    step = e ∙ rw (add-one i, drop-cons shape i 0 h, drop-cons s i 0 k)
+    step = at.0 ∙ rw (one, two, is)
 
-    module _ (b : Bool) (f : b ≡ fits (get_or shape i 0) (get_or s i 0)) where
-      pub shape_other : not b ≡ true → false ≡ has_shape shape s
-      shape_other g = sym (step ∙ ap (λ (x : Bool). x && has_shape (drop (i + 1) shape) (drop (i + 1) s)) (sym f ∙ not-true b g))
+    pub ahead_other : x ≡ false → false ≡ has_shape shape s
+    ahead_other h = sym (rw h at step)
 
-      pub shape_next : not b ≡ false → has_shape shape s ≡ has_shape (drop (i + 1) shape) (drop (i + 1) s)
-      shape_next g = step ∙ ap (λ (x : Bool). x && has_shape (drop (i + 1) shape) (drop (i + 1) s)) (sym f ∙ not-false b g)
+    pub ahead_next : x ≡ true → Ahead shape s l r
+    ahead_next h = let room : length (p ∷ l) ≤ length (b ∷ r) = rw (one, two) at at.1 in (rw h at step, omega (arith, room))
+
+  pub ahead_end : (left rest : List ℕ) → Ahead shape s left rest → length left ≡ 0 → true ≡ has_shape shape s
+  unfolding has_shape
+  ahead_end [] rest at h = sym at.0
+  ahead_end (p ∷ l) rest at h = absurd (let f : ⊥ = omega arith in f)
 
 -- the date whose parts have been read
 pub date_is : (s : List ℕ) (a b m d : ℕ) → a ≡ two s 0 → b ≡ two s 2 → m ≡ two s 5 → d ≡ two s 8

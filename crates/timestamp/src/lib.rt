@@ -19,12 +19,14 @@ fn fits(p: u8, b: u8) -> bool
 }
 
 // Whether s begins with the shape.
-#[tactic(auto, using(crate::proofs::Shapes::shape_end, crate::proofs::Shapes::shape_short, crate::proofs::Shapes::shape_other, crate::proofs::Shapes::shape_next))]
 fn has_shape(shape: &[u8], s: &[u8]) -> bool
     ensures { result ≡ has_shape shape.now s.now }
 {
-    for (i, p) in shape.iter().enumerate() {
-        if s.len() <= i || !fits(*p, s[i]) {
+    if s.len() < shape.len() {
+        return false;
+    }
+    for (p, b) in shape.iter().zip(s) {
+        if !fits(*p, *b) {
             return false;
         }
     }
@@ -130,10 +132,10 @@ fn noon_in(path: &[u8]) -> Option<u64>
 fn second_in(path: &[u8]) -> Option<u64>
     ensures { result ≡ second_in path.now }
 {
-    let Some(i) = first_place(path, |i| is_dashed(path, i)) else {
-        return noon_in(path);
-    };
-    moment_in(&path[i..])
+    match first_place(path, |i| is_dashed(path, i)) {
+        Some(i) => moment_in(&path[i..]),
+        None => noon_in(path),
+    }
 }
 
 #[tactic(auto, using(crate::proofs::Paths::unreadable, crate::proofs::Paths::none_named, crate::proofs::Paths::one_named, crate::proofs::Paths::refused, crate::proofs::Paths::answered))]
@@ -143,8 +145,5 @@ pub fn infer_timestamp_from_path(path: &[u8]) -> Result<Option<f64>, InferError>
     if !utf8::is_readable(path) {
         return Err(InferError::NotUtf8);
     }
-    let Some(o) = second_in(path) else {
-        return Ok(None);
-    };
-    Ok(Some(seconds::timestamp_of(o)))
+    Ok(second_in(path).map(|second| seconds::timestamp_of(second)))
 }

@@ -28,4 +28,4 @@ returns c =
     let l : length c.args.begin.now + length c.args.path.now + length c.args.origin_asn.now ≤ length c.args.out.now = search rules in
     let z : c.in_ok-left.left ≡ length c.args.out.now - (length c.args.begin.now + length c.args.path.now + length c.args.origin_asn.now) = search rules in
     let h = leb-true _ _ (sym c.attributes_fit.ensures ∙ c.if-not-attributes_fit.false) in
-    put c.new-w.ensures.0 c.new-w.ensures.2 (texts_length c.args.begin.now c.args.path.now c.args.origin_asn.now c.args.e) (omega (arith, h, l, z)) (then (then (then (then (then c.bytes.ensures c.bytes-2.ensures) c.byte.ensures) c.bytes-3.ensures) c.write_attributes.ensures) c.byte-2.ensures) (search rules)
+    put c.new-w.ensures.0 c.new-w.ensures.2 (texts_length c.args.begin.now c.args.path.now c.args.origin_asn.now c.args.attributes) (omega (arith, h, l, z)) (then (then (then (then (then c.bytes.ensures c.bytes-2.ensures) c.byte.ensures) c.bytes-3.ensures) c.write_attributes.ensures) c.byte-2.ensures) (search rules)

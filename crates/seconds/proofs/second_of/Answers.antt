@@ -1,39 +1,28 @@
 -- `seconds::second_of` meets its contract: each way rewrites `second_of` with the tests that led there.
 -- Assumes nothing.
-use Rattle.std.proofs.Common.{◌<◌, ◌≤◌, sym, ◌∙◌, le-leb, arith}
-use borrow.Author.Tests.{lt-leb}
+use Rattle.std.proofs.Common.{◌∙◌, arith}
 use lib.Ieee.{of_bits}
-use Rattle.seconds.proofs.Answers.{before, since}
+use Rattle.seconds.proofs.Answers.{before_none, before_some, since_none, since_some, since_over}
 use Rattle.seconds.proofs.second_of.Goals as goal
 
-pub returns-in-Some : goal.returns-in-Some
+pub returns-in_err-whole_number : goal.returns-in_err-whole_number
 unfolding of_bits
-returns-in-Some c =
-    let h : c.in-Some.n ≤ 62167219200 = omega arith in
-    simp (le-leb c.in-Some.n 62167219200 h) at (before _ _ c.if-t.true (sym c.in-Some.is ∙ c.whole_number.ensures))
+returns-in_err-whole_number c =
+    c.from_residual.ensures ∙ before_none _ _ c.if-t.true c.whole_number.ensures c.in_err-whole_number.was
 
-pub returns-in_default : goal.returns-in_default
+pub returns-then-t : goal.returns-then-t
 unfolding of_bits
-returns-in_default c =
-    let h : 62167219200 < c.in-Some.n = omega arith in
-    simp (lt-leb c.in-Some.n 62167219200 h) at (before _ _ c.if-t.true (sym c.in-Some.is ∙ c.whole_number.ensures))
+returns-then-t c =
+    before_some _ _ c.if-t.true c.whole_number.ensures _ _ c.in_ok-whole_number.was c.checked_sub.ensures
 
-pub returns-in_default-2 : goal.returns-in_default-2
+pub returns-in_err-n : goal.returns-in_err-n
 unfolding of_bits
-returns-in_default-2 c = before _ _ c.if-t.true (sym c.in_default.is ∙ c.whole_number.ensures)
+returns-in_err-n c = c.from_residual-in_err-n.ensures ∙ since_none _ _ c.if-t.false c.whole_number-2.ensures c.in_err-n.was
 
-pub returns-in-Some-whole_number : goal.returns-in-Some-whole_number
+pub returns-then-n-le-LAST : goal.returns-then-n-le-LAST
 unfolding of_bits
-returns-in-Some-whole_number c =
-    let h : c.in-Some-whole_number.n ≤ 253402300799 = omega arith in
-    simp (le-leb c.in-Some-whole_number.n 253402300799 h) at (since _ _ c.if-t.false (sym c.in-Some-whole_number.is ∙ c.whole_number-else-t.ensures))
+returns-then-n-le-LAST c = since_some _ _ c.if-t.false c.whole_number-2.ensures _ c.in_ok-n.was (omega arith)
 
-pub returns-in_default-whole_number : goal.returns-in_default-whole_number
+pub returns-else-n-le-LAST : goal.returns-else-n-le-LAST
 unfolding of_bits
-returns-in_default-whole_number c =
-    let h : 253402300799 < c.in-Some-whole_number.n = omega arith in
-    simp (lt-leb c.in-Some-whole_number.n 253402300799 h) at (since _ _ c.if-t.false (sym c.in-Some-whole_number.is ∙ c.whole_number-else-t.ensures))
-
-pub returns-in_default-whole_number-2 : goal.returns-in_default-whole_number-2
-unfolding of_bits
-returns-in_default-whole_number-2 c = since _ _ c.if-t.false (sym c.in_default-whole_number.is ∙ c.whole_number-else-t.ensures)
+returns-else-n-le-LAST c = since_over _ _ c.if-t.false c.whole_number-2.ensures _ c.in_ok-n.was (omega arith)

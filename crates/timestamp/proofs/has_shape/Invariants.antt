@@ -1,7 +1,5 @@
-use mathlib.Core.Path.{◌≡◌}
-use lib.ListN.{drop}
-use Rattle.timestamp.specs.Dates.{has_shape}
+use Rattle.timestamp.proofs.Shapes.{Ahead}
 use Rattle.timestamp.proofs.has_shape.Given as goal
 
-abbrev pub invariant-loop-i : goal.invariant-loop-i
-invariant-loop-i l = has_shape l.shape l.s ≡ has_shape (drop l.i l.shape) (drop l.i l.s)
+abbrev pub invariant-loop-p : goal.invariant-loop-p
+invariant-loop-p l = Ahead l.shape l.s l.p-iterator.a.rest.now l.p-iterator.b.rest.now

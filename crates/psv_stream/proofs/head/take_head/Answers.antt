@@ -1,24 +1,22 @@
-use Rattle.std.proofs.Common.{rules}
-use Rattle.psv_stream.proofs.Runs.{none_yet, head_full, at_body, fewer, takes, head_stops, head_starves}
+use Rattle.std.proofs.Common.{◌≡◌, rules, refl, ⊎_elim}
+use Rattle.psv_stream.proofs.Walks.{head_full, head_left, head_stops, head_starves, head_does}
 use Rattle.psv_stream.proofs.head.take_head.Goals as goal
 
-pub loop-out-init : goal.loop-out-init
-loop-out-init c = record { came = search none_yet; going = search rules }
-
-pub returns-in_default : goal.returns-in_default
-returns-in_default c = search (head_full, c.in_default.ensures)
-
 pub returns-in-Starved : goal.returns-in-Starved
-returns-in-Starved c = search (head_starves, c.in-Some.ensures)
+returns-in-Starved c =
+    head_starves _ _ _ _ _ _ _ c.take_lines-taken.ensures c.args.ended (λ p. p) (λ f p. f.0 ≡ c.args.ended) (λ f f' p t o o' r i k. head_does p k.text.now t f.0 c.args.ended k.room.now o k.left.now o' r (search rules) k.shows.0 i k.shows.1 k.leaves) (λ f f' p q t o o' d v i k. search rules) refl
+    c.in-Starved.is
 
-pub returns-in-Stops : goal.returns-in-Stops
-returns-in-Stops c = search (head_stops, c.in-Some.ensures)
+pub returns-in-Stopped : goal.returns-in-Stopped
+returns-in-Stopped c =
+    head_stops _ _ _ _ _ _ _ c.take_lines-taken.ensures c.args.ended (λ p. p) (λ f p. f.0 ≡ c.args.ended) (λ f f' p t o o' r i k. head_does p k.text.now t f.0 c.args.ended k.room.now o k.left.now o' r (search rules) k.shows.0 i k.shows.1 k.leaves) (λ f f' p q t o o' d v i k. search rules) refl
+    c.in-Stopped.is _ c.stopped.ensures
 
-pub loop-out-smaller : goal.loop-out-smaller
-loop-out-smaller c = search (fewer, c.in-Some.ensures)
-
-pub loop-out-preserved : goal.loop-out-preserved
-loop-out-preserved c = record { came = search (takes, c.in-Some.ensures); going = search rules }
-
-pub returns : goal.returns
-returns c = search at_body
+pub returns-in-Full : goal.returns-in-Full
+returns-in-Full c =
+    ⊎_elim
+    (λ e. head_full _ _ _ _ _ _ _ c.take_lines-taken.ensures c.args.ended (λ p. p) (λ f p. f.0 ≡ c.args.ended) (λ f f' p t o o' r i k. head_does p k.text.now t f.0 c.args.ended k.room.now o k.left.now o' r (search rules) k.shows.0 i k.shows.1 k.leaves) (λ f f' p q t o o' d v i k. search rules) refl
+    e)
+    (λ e. head_left _ _ _ _ _ _ _ c.take_lines-taken.ensures c.args.ended (λ p. p) (λ f p. f.0 ≡ c.args.ended) (λ f f' p t o o' r i k. head_does p k.text.now t f.0 c.args.ended k.room.now o k.left.now o' r (search rules) k.shows.0 i k.shows.1 k.leaves) (λ f f' p q t o o' d v i k. search rules) refl
+    e)
+    c.in-Full.is
