@@ -42,6 +42,8 @@ fn numbers_len(numbers: &[u32]) -> usize
     len
 }
 
+// Stays beside write_path, and ip_display's groups, which part other items so: a function for all
+// would take the item's writing as a closure, and a public one asks nothing of its callers.
 pub fn write_numbers(numbers: &[u32], sep: u8, w: &mut Writer)
     ensures { Writes (separated sep decimal true numbers.now) w.old w.new }
 {

@@ -5,12 +5,15 @@
 // numbers (bytes; four for each number), its two counts, the call's argument and how many places
 // or bytes are lent to it. `all` asks every call of one record, with one digit for each kind,
 // length and number; the argument is then the number of bytes lent.
+//
+// Stays with the record, the places and the answer as parameters of what asks: the calls asked take
+// them one by one, so a struct of them would be taken apart at each.
 #![tactic(auto)]
 
 use aspath::{PathRecord, Spoilt, VariationsError};
 use aspath_display::DisplayError;
 use aspath_routes::{NumbersError, RouteError};
-use cases::{Answer, InHex, Marked, Program};
+use cases::{Answer, InHex, Marked, Or, Program};
 use path_cases::Lists;
 use std::io::Write;
 use std::{fmt, io};
@@ -75,11 +78,7 @@ fn put_option<T: fmt::Display + Drop, E: Refusal>(
     r: Result<Option<T>, E>,
     out: &mut Answer,
 ) -> io::Result<()> {
-    match r {
-        Ok(None) => write!(out, "none"),
-        Ok(Some(v)) => write!(out, "{v}"),
-        Err(e) => write!(out, "refused {}", e.number()),
-    }
+    put(r.map(|v| Or(v, "none")), out)
 }
 
 // A call that reads, or else writes numbers to the places.

@@ -45,6 +45,7 @@ fn last_place(line: &[u8], name: &[u8]) -> Option<usize>
 {
     let mut found = None;
     let mut at = 0;
+    // Stays a while let: an iterator of words would be made for this loop alone.
     while let Some((start, end)) = scan::next_word(line, at) {
         if words_begin(line, start, name) {
             found = Some(start);

@@ -66,8 +66,8 @@ fn further(text: &[u8], at: usize, x: u64) -> usize {
 
 // Two to eight parts, cut after the header at any places, or at line ends only. Parts may be
 // empty.
-// Stays a bool: a public function asks nothing of its callers, and one that takes a closure asks
-// that it may be called.
+// Stays a bool: a public function asks nothing of its callers, one that takes a closure asks that
+// it may be called, and a trait with two types for the two would be no plainer.
 pub fn by_chance(text: &[u8], header: usize, seed: u64, line_ends: bool) -> Cut {
     let parts = 2 + (drawn(seed) % 7) as usize;
     let mut places = [text.len(); PLACES];

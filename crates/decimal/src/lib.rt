@@ -114,6 +114,8 @@ fn digits_value(w: u64, n: usize) -> u32
 }
 
 // How many digits are at the front of a word's bytes, and what they make.
+// Stays a count, 0 for none: an Option of a struct would cross the call through memory
+// (docs/PERFORMANCE.md), and this one is on the way of each AS number.
 #[derive(Clone, Copy)]
 pub struct FirstDigits {
     pub count: usize,

@@ -65,16 +65,12 @@ digits_least (suc k) n h = omega (arith, length_long n l, digits_least k (n / 10
     l : 10 ≤ n
     l = omega (arith, pow-suc 10 k, one-le-pow k 10 (omega arith))
 
--- counting digits: n has at least len of them, and is compared with 10 ^ len
-pub counted : (n len power : ℕ) → 1 ≤ len → power * 10 ≡ 10 ^ len → len ≤ length (decimal n) → n < power * 10 → len ≡ length (decimal n)
-counted n len power some e l h = let z : suc (len - 1) ≡ len = omega arith in omega (arith, digits_most (len - 1) n (rw (z, ← e) h))
+-- the length by the logarithm
+pub length_log : (k n : ℕ) → 10 ^ k ≤ n → n < 10 * 10 ^ k → k + 1 ≡ length (decimal n)
+length_log k n h l = omega (arith, digits_least k n h, digits_most k n (omega (arith, l, pow-suc 10 k)))
 
-pub more_digits : (n len power : ℕ) → power * 10 ≡ 10 ^ len → power * 10 ≤ n → len + 1 ≤ length (decimal n)
-more_digits n len power e h = omega (arith, digits_least len n (rw (← e) h))
-
--- no number of 64 bits has more than 20 digits
-pub longest : (n : ℕ) → 20 ≤ length (decimal n) → Fits w64 n → 20 ≡ length (decimal n)
-longest n l f = omega (arith, digits_most 19 n (omega (arith, f.fits)))
+pub length_zero : (n : ℕ) → n ≡ 0 → 1 ≡ length (decimal n)
+length_zero n h = rw (decimal_short n (omega (arith, h))) refl
 
 -- a number's last k digits are the number itself, if it has no more, and else stand behind the digits in front of them
 pub all_digits : (k n : ℕ) → length (decimal n) ≡ k → last_digits k n ≡ decimal n

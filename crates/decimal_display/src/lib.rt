@@ -8,19 +8,15 @@ ghost use Rattle.output.specs.Writing.{Writes};
 
 use output::{PutError, Writer};
 
-// How many digits n has. The powers do not depend on n: the loop unrolls to comparisons.
-#[tactic(auto, using(crate::proofs::Printed::length_pos, crate::proofs::Printed::longest, decimal::proofs::Power::power_fits))]
+// How many digits n has.
+#[tactic(auto, using(crate::proofs::Printed::length_log, crate::proofs::Printed::length_zero))]
 pub fn decimal_len(n: u64) -> usize
     ensures { (result ≡ length (decimal n)) × (result ≤ 20) }
 {
-    let mut power: u64 = 1;
-    for len in 1..20 {
-        power = power * 10;
-        if n < power {
-            return len;
-        }
+    match n.checked_ilog10() {
+        Some(k) => k as usize + 1,
+        None => 1,
     }
-    20
 }
 
 // The last K digits of n, with zeros in front. K is known, so the loop unrolls.
@@ -29,6 +25,8 @@ fn last_digits<const K: usize>(n: u64) -> [u8; K]
 {
     let mut digits = [b'0'; K];
     let mut y = n;
+    // Stays by places: in a loop over `iter_mut().rev()` no invariant can speak of the digits
+    // written, so the proof did not close.
     for i in (0..K).rev() {
         digits[i] = b'0' + (y % 10) as u8;
         y = y / 10;

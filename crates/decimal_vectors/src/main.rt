@@ -22,6 +22,7 @@ fn put_text<F: FnOnce(&mut Writer)>(write: F, out: &mut Answer) -> io::Result<()
 }
 
 // The number as `decimal_display` prints it.
+// Stays two for the two types: one would take the closure that each makes as a parameter.
 fn put_u32(r: Option<u32>, out: &mut Answer) -> io::Result<()> {
     match r {
         Some(n) => put_text(|w| decimal_display::write_u32(n, w), out),

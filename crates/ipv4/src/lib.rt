@@ -26,6 +26,7 @@ fn octet(s: &[u8], at: usize) -> Option<(u32, usize)>
     ensures { result ≡ octet_at at (drop at s.now) }
 {
     let mut v: u32 = 0;
+    // Stays by places: over `s[at..]` with `enumerate` the proof did not close.
     for i in at..s.len() {
         let b = s[i];
         if b == b'.' {

@@ -20,7 +20,7 @@ use Rattle.scan.specs.Search.{equal, find_from, find_in}
 use Rattle.decimal.specs.Decimal.{below}
 use Rattle.ipv4.specs.Parts.{before, prepend, each, number}
 use Rattle.ipv6.specs.Ipv6.{hex_digit, value_from, group, gap}
-use Rattle.ipv6.specs.Groups.{shifted, push, push_all, side_from}
+use Rattle.ipv6.specs.Groups.{shifted, push, push_all, with_groups}
 use Rattle.ipv6.specs.declared.Groups.{Groups}
 use Rattle.ipv4.proofs.Parts.{number_grows, number_room, before_short}
 
@@ -129,19 +129,19 @@ module _ (p : List ℕ) (few : length p ≤ 4) (i v : ℕ) (h : v < 16 ^ i) (mor
 
 -- one group more
 module _ (r : Groups) (g : ℕ) where
-  pub push_full : 7 < r.n → None ≡ side_from r (Some (g ∷ []))
+  pub push_full : 7 < r.n → None ≡ with_groups r (Some (g ∷ []))
   push_full h = simp (lt-leb (r.n + 1) 8 (omega arith))
 
   module _ (room : r.n ≤ 7) where
-    pub push_some : Some (push r g) ≡ side_from r (Some (g ∷ []))
+    pub push_some : Some (push r g) ≡ with_groups r (Some (g ∷ []))
     unfolding push_all
     push_some = simp (le-leb (r.n + 1) 8 (omega arith))
 
-    pub push_upper : r.n < 4 → Some (record { n = r.n + 1; upper = shifted r.upper g; lower = r.lower }) ≡ side_from r (Some (g ∷ []))
+    pub push_upper : r.n < 4 → Some (record { n = r.n + 1; upper = shifted r.upper g; lower = r.lower }) ≡ with_groups r (Some (g ∷ []))
     unfolding push
     push_upper h = ap (λ (x : Groups). Some x) (simp (lt-ltb r.n 4 h)) ∙ push_some
 
-    pub push_lower : 4 ≤ r.n → Some (record { n = r.n + 1; upper = r.upper; lower = shifted r.lower g }) ≡ side_from r (Some (g ∷ []))
+    pub push_lower : 4 ≤ r.n → Some (record { n = r.n + 1; upper = r.upper; lower = shifted r.lower g }) ≡ with_groups r (Some (g ∷ []))
     unfolding push
     push_lower h = ap (λ (x : Groups). Some x) (simp (le-ltb r.n 4 h)) ∙ push_some
 

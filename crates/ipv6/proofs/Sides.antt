@@ -17,7 +17,7 @@ use Rattle.decimal.specs.Decimal.{below}
 use Rattle.ipv4.specs.Parts.{parts, before, prepend, each, number}
 use Rattle.ipv4.specs.Ipv4.{ipv4}
 use Rattle.ipv6.specs.Ipv6.{hex_digit, value_from, group, last_part, groups, side, gap, filled, eight, ipv6, upper, lower, as_ipv6}
-use Rattle.ipv6.specs.Groups.{no_groups, shifted, push, push_all, side_from, whole_of}
+use Rattle.ipv6.specs.Groups.{no_groups, shifted, push, push_all, with_groups, whole_of}
 use Rattle.ipv6.specs.declared.Groups.{Groups}
 use Rattle.ipv4.proofs.Parts.{parts_last, parts_more, parts_cons, before_take, each_length, each_small, number_room}
 use Rattle.ipv4.proofs.Ipv4.{ipv4_small}
@@ -42,13 +42,13 @@ push_all_append r [] b = refl
 push_all_append r (g ∷ a) b = push_all_append (push r g) a b
 
 -- from at most eight groups on
-counted : (r : Groups) (gs : List ℕ) → r.n ≤ 8 → side_from r (Some gs) ≡ cond (leb (r.n + length gs) 8) (Some (push_all r gs)) None
+counted : (r : Groups) (gs : List ℕ) → r.n ≤ 8 → with_groups r (Some gs) ≡ cond (leb (r.n + length gs) 8) (Some (push_all r gs)) None
 unfolding push_all
 counted r [] h = simp (le-leb (r.n + 0) 8 (omega arith))
 counted r (g ∷ gs) h = refl
 
 -- what a push answers
-module _ (r : Groups) (g : ℕ) (x : Option Groups) (hx : x ≡ side_from r (Some (g ∷ []))) where
+module _ (r : Groups) (g : ℕ) (x : Option Groups) (hx : x ≡ with_groups r (Some (g ∷ []))) where
   pub push_none : x ≡ None → 7 < r.n
   push_none e = go (leb (r.n + 1) 8) refl (sym e ∙ hx)
     where
@@ -65,48 +65,48 @@ module _ (r : Groups) (g : ℕ) (x : Option Groups) (hx : x ≡ side_from r (Som
       go false f h = let z : ◌≡◌ {A = ℕ} 0 1 = cc in absurd (omega arith)
 
 -- one group in front
-from_prepend : (r : Groups) (g : ℕ) (m : Option (List ℕ)) → r.n ≤ 7 → side_from r (prepend (Some g) m) ≡ side_from (push r g) m
+from_prepend : (r : Groups) (g : ℕ) (m : Option (List ℕ)) → r.n ≤ 7 → with_groups r (prepend (Some g) m) ≡ with_groups (push r g) m
 unfolding push_all
 from_prepend r g (Some []) h = simp (le-leb (r.n + 1) 8 (omega arith))
 from_prepend r g (Some (k ∷ gs)) h = let z : (push r g).n + suc (length gs) ≡ r.n + suc (suc (length gs)) = omega (arith, push_n r g) in rw z
 from_prepend r g None h = refl
 
 -- no room for it
-from_full : (r : Groups) (g : ℕ) (m : Option (List ℕ)) → 7 < r.n → side_from r (prepend (Some g) m) ≡ None
+from_full : (r : Groups) (g : ℕ) (m : Option (List ℕ)) → 7 < r.n → with_groups r (prepend (Some g) m) ≡ None
 from_full r g (Some gs) h = simp (lt-leb (r.n + suc (length gs)) 8 (omega arith))
 from_full r g None h = refl
 
 -- the last part
 module _ (t : List ℕ) (dotted : Bool) (r : Groups) (x : Option ℕ) (hx : x ≡ group t) where
-  pub part_group : (g : ℕ) → x ≡ Some g → (y : Option Groups) → y ≡ side_from r (Some (g ∷ [])) → y ≡ side_from r (last_part dotted (group t) (ipv4 t))
+  pub part_group : (g : ℕ) → x ≡ Some g → (y : Option Groups) → y ≡ with_groups r (Some (g ∷ [])) → y ≡ with_groups r (last_part dotted (group t) (ipv4 t))
   part_group g hg y e = e ∙ rw (← hx, hg)
 
   module _ (hg : x ≡ None) where
-    pub part_bare : not dotted ≡ true → None ≡ side_from r (last_part dotted (group t) (ipv4 t))
+    pub part_bare : not dotted ≡ true → None ≡ with_groups r (last_part dotted (group t) (ipv4 t))
     part_bare d = rw (← hx, hg, not-true dotted d)
 
     module _ (d : dotted ≡ true) (y : Option ℕ) (hy : y ≡ ipv4 t) where
-      pub part_none : y ≡ None → None ≡ side_from r (last_part dotted (group t) (ipv4 t))
+      pub part_none : y ≡ None → None ≡ with_groups r (last_part dotted (group t) (ipv4 t))
       part_none e = rw (← hx, hg, d, ← hy, e)
 
-      module _ (a : ℕ) (ha : y ≡ Some a) (z : Option Groups) (hz : z ≡ side_from r (Some (a / 65536 ∷ []))) where
-        pub part_crowded : z ≡ None → None ≡ side_from r (last_part dotted (group t) (ipv4 t))
+      module _ (a : ℕ) (ha : y ≡ Some a) (z : Option Groups) (hz : z ≡ with_groups r (Some (a / 65536 ∷ []))) where
+        pub part_crowded : z ≡ None → None ≡ with_groups r (last_part dotted (group t) (ipv4 t))
         part_crowded e =
             rw (← hx, hg, d, ← hy, ha) (simp (lt-leb (r.n + 2) 8 (omega (arith, push_none r (a / 65536) z hz e))))
 
-        pub part_dotted : (v : Groups) → z ≡ Some v → (w : Option Groups) → w ≡ side_from v (Some (a % 65536 ∷ [])) → w ≡ side_from r (last_part dotted (group t) (ipv4 t))
+        pub part_dotted : (v : Groups) → z ≡ Some v → (w : Option Groups) → w ≡ with_groups v (Some (a % 65536 ∷ [])) → w ≡ with_groups r (last_part dotted (group t) (ipv4 t))
         unfolding push_all
         part_dotted v hv w hw =
             let pushed : (v ≡ push r (a / 65536)) × (r.n ≤ 7) = push_is r (a / 65536) z hz v hv in
             rw (← hx, hg, d, ← hy, ha, hw, pushed.0) (sym (from_prepend r (a / 65536) (Some (a % 65536 ∷ [])) pushed.1))
 
 -- a side
-pub side_empty : (s : List ℕ) (dotted : Bool) (r : Groups) → length s ≡ 0 → Some r ≡ side_from r (side dotted s)
+pub side_empty : (s : List ℕ) (dotted : Bool) (r : Groups) → length s ≡ 0 → Some r ≡ with_groups r (side dotted s)
 unfolding side
 side_empty [] dotted r h = refl
 side_empty (b ∷ s) dotted r h = absurd (omega arith)
 
-pub side_start : (s : List ℕ) (dotted : Bool) (r : Groups) → (length s ≡ 0 → ⊥) → side_from r (side dotted s) ≡ side_from r (groups dotted (parts 58 s))
+pub side_start : (s : List ℕ) (dotted : Bool) (r : Groups) → (length s ≡ 0 → ⊥) → with_groups r (side dotted s) ≡ with_groups r (groups dotted (parts 58 s))
 unfolding side
 side_start [] dotted r h = absurd (h refl)
 side_start (b ∷ s) dotted r h = refl
@@ -117,9 +117,9 @@ unfolding groups
 groups_more dotted p u = rw (parts_cons 58 u)
 
 -- the groups so far are in r, and the others are those of t
-module _ (s t : List ℕ) (dotted : Bool) (r₀ r : Groups) (inv : side_from r₀ (side dotted s) ≡ side_from r (groups dotted (parts 58 t)))
+module _ (s t : List ℕ) (dotted : Bool) (r₀ r : Groups) (inv : with_groups r₀ (side dotted s) ≡ with_groups r (groups dotted (parts 58 t)))
     (e : ℕ) (he : e ≡ length (before 58 t)) where
-  pub side_last : length t ≤ e → (z : Option Groups) → z ≡ side_from r (last_part dotted (group t) (ipv4 t)) → z ≡ side_from r₀ (side dotted s)
+  pub side_last : length t ≤ e → (z : Option Groups) → z ≡ with_groups r (last_part dotted (group t) (ipv4 t)) → z ≡ with_groups r₀ (side dotted s)
   unfolding groups
   side_last h z f = f ∙ sym (inv ∙ rw (parts_last 58 t (omega arith), ← before_take 58 t, ← he, take_all e t h))
 
@@ -127,15 +127,15 @@ module _ (s t : List ℕ) (dotted : Bool) (r₀ r : Groups) (inv : side_from r�
     first : groups dotted (parts 58 t) ≡ prepend (group (take e t)) (groups dotted (parts 58 (drop (e + 1) t)))
     first = rw (parts_more 58 t (omega arith), ← he, add-one) (groups_more dotted (before 58 t) (drop (suc e) t) ∙ rw (← before_take 58 t, ← he))
 
-    pub side_stop : x ≡ None → None ≡ side_from r₀ (side dotted s)
+    pub side_stop : x ≡ None → None ≡ with_groups r₀ (side dotted s)
     side_stop g = rw (inv, first, ← hx, g)
 
-    module _ (g : ℕ) (hg : x ≡ Some g) (z : Option Groups) (hz : z ≡ side_from r (Some (g ∷ []))) where
-      pub side_full : z ≡ None → None ≡ side_from r₀ (side dotted s)
+    module _ (g : ℕ) (hg : x ≡ Some g) (z : Option Groups) (hz : z ≡ with_groups r (Some (g ∷ []))) where
+      pub side_full : z ≡ None → None ≡ with_groups r₀ (side dotted s)
       side_full f = sym (inv ∙ rw (first, ← hx, hg) (from_full r g (groups dotted (parts 58 (drop (e + 1) t))) (push_none r g z hz f)))
 
       pub side_next : (y : Groups) → z ≡ Some y
-          → side_from r₀ (side dotted s) ≡ side_from y (groups dotted (parts 58 (take (length t - (e + 1)) (drop (e + 1) t))))
+          → with_groups r₀ (side dotted s) ≡ with_groups y (groups dotted (parts 58 (take (length t - (e + 1)) (drop (e + 1) t))))
       side_next y f =
           let pushed : (y ≡ push r g) × (r.n ≤ 7) = push_is r g z hz y f in
           inv
@@ -144,10 +144,10 @@ module _ (s t : List ℕ) (dotted : Bool) (r₀ r : Groups) (inv : side_from r�
 
 -- zero groups
 abbrev pub zeros_from : Groups → ℕ → Option Groups
-zeros_from r k = side_from r (Some (replicate k 0))
+zeros_from r k = with_groups r (Some (replicate k 0))
 
 module _ (r₀ r : Groups) (m n : ℕ) (hn : n ≡ r.n) (inv : zeros_from r₀ (m - r₀.n) ≡ zeros_from r (m - n)) where
-  module _ (more : n < m) (z : Option Groups) (hz : z ≡ side_from r (Some (0 ∷ []))) where
+  module _ (more : n < m) (z : Option Groups) (hz : z ≡ with_groups r (Some (0 ∷ []))) where
     k : m - n ≡ suc (m - (n + 1))
     k = omega arith
 
@@ -256,7 +256,7 @@ whole_eight gs h s =
     simp (eq-eqb (push_all no_groups gs).n 8 (push_all_n no_groups gs ∙ zero-add (length gs) ∙ h), (halves gs h s).0, (halves gs h s).1)
 
 -- what a side's answer says of its groups
-known : (r : Groups) (m : Option (List ℕ)) (x : Option Groups) (y : Groups) → r.n ≤ 8 → x ≡ side_from r m → x ≡ Some y
+known : (r : Groups) (m : Option (List ℕ)) (x : Option Groups) (y : Groups) → r.n ≤ 8 → x ≡ with_groups r m → x ≡ Some y
     → (gs : List ℕ) × (m ≡ Some gs) × (y ≡ push_all r gs) × (r.n + length gs ≤ 8)
 known r (Some gs) x y few e f = go (leb (r.n + length gs) 8) refl (sym (e ∙ counted r gs few) ∙ f)
   where
@@ -267,8 +267,8 @@ known r (Some gs) x y few e f = go (leb (r.n + length gs) 8) refl (sym (e ∙ co
 known r None x y few e f = let z : ◌≡◌ {A = ℕ} 0 1 = cc in absurd (omega arith)
 
 -- none, or more than eight
-unknown : (r : Groups) (m : Option (List ℕ)) (x : Option Groups) → r.n ≤ 8 → x ≡ side_from r m → x ≡ None → (gs : List ℕ) → m ≡ Some gs → 8 < r.n + length gs
-unknown r m x few e f gs h = go (leb (r.n + length gs) 8) refl (sym f ∙ e ∙ ap (side_from r) h ∙ counted r gs few)
+unknown : (r : Groups) (m : Option (List ℕ)) (x : Option Groups) → r.n ≤ 8 → x ≡ with_groups r m → x ≡ None → (gs : List ℕ) → m ≡ Some gs → 8 < r.n + length gs
+unknown r m x few e f gs h = go (leb (r.n + length gs) 8) refl (sym f ∙ e ∙ ap (with_groups r) h ∙ counted r gs few)
   where
     go : (t : Bool) → leb (r.n + length gs) 8 ≡ t → None ≡ cond {A = Option Groups} t (Some (push_all r gs)) None → 8 < r.n + length gs
     go true p q = let z : ◌≡◌ {A = ℕ} 0 1 = cc in absurd (omega arith)
@@ -283,7 +283,7 @@ assembled a b n e h p q =
     ∙ simp (← e, le-leb (length a + length b) 7 h)
 
 -- left and right of "::"
-module _ (l r : List ℕ) (x : Option Groups) (hx : x ≡ side_from no_groups (side false l)) where
+module _ (l r : List ℕ) (x : Option Groups) (hx : x ≡ with_groups no_groups (side false l)) where
   pub around_left : x ≡ None → None ≡ as_ipv6 (filled (side false l) (side true r))
   around_left e = go (side false l) (side true r) (unknown no_groups (side false l) x (omega arith) hx e)
     where
@@ -292,7 +292,7 @@ module _ (l r : List ℕ) (x : Option Groups) (hx : x ≡ side_from no_groups (s
       go (Some a) None h = refl
       go None n h = refl
 
-  module _ (a : Groups) (ha : x ≡ Some a) (y : Option Groups) (hy : y ≡ side_from no_groups (side true r)) where
+  module _ (a : Groups) (ha : x ≡ Some a) (y : Option Groups) (hy : y ≡ with_groups no_groups (side true r)) where
     pub around_right : y ≡ None → None ≡ as_ipv6 (filled (side false l) (side true r))
     around_right e = go (side false l) (side true r) (unknown no_groups (side true r) y (omega arith) hy e)
       where
@@ -320,7 +320,7 @@ module _ (l r : List ℕ) (x : Option Groups) (hx : x ≡ side_from no_groups (s
       pub around_many : 7 < a.n + b.n → None ≡ as_ipv6 (filled (side false l) (side true r))
       around_many h = rw (left.1, right.1) (simp (lt-leb (length left.0 + length right.0) 7 (omega (arith, left_n, right_n))))
 
-      module _ (few : a.n + b.n ≤ 7) (u : Option Groups) (hu : u ≡ side_from a (Some (replicate (8 - b.n - a.n) 0))) where
+      module _ (few : a.n + b.n ≤ 7) (u : Option Groups) (hu : u ≡ with_groups a (Some (replicate (8 - b.n - a.n) 0))) where
         pub around_unfilled : u ≡ None → None ≡ as_ipv6 (filled (side false l) (side true r))
         around_unfilled e =
             let zeros : length {A = ℕ} (replicate (8 - b.n - a.n) 0) ≡ 8 - b.n - a.n = rw length-replicate in
@@ -341,7 +341,7 @@ module _ (l r : List ℕ) (x : Option Groups) (hx : x ≡ side_from no_groups (s
           fill_le : z.n ≤ 8
           fill_le = omega (arith, fill_count)
 
-          module _ (w : Option Groups) (hw : w ≡ side_from z (side true r)) where
+          module _ (w : Option Groups) (hw : w ≡ with_groups z (side true r)) where
             pub around_over : w ≡ None → None ≡ as_ipv6 (filled (side false l) (side true r))
             around_over e = absurd (omega (arith, unknown z (side true r) w fill_le hw e right.0 right.1, fill_count, right_n))
 
@@ -368,7 +368,7 @@ module _ (s : List ℕ) (p : Option ℕ) (hp : p ≡ below (length s) (Some (gap
       let there : (k ≡ gap s) × (gap s < length s) = gap_there s p hp k here in
       e ∙ rw (take_all (length s - (k + 2)) (drop (k + 2) s) (simp length-drop (omega arith)), there.0) (simp (lt-ltb (gap s) (length s) there.1))
 
-  module _ (nowhere : p ≡ None) (x : Option Groups) (hx : x ≡ side_from no_groups (side true s)) where
+  module _ (nowhere : p ≡ None) (x : Option Groups) (hx : x ≡ with_groups no_groups (side true s)) where
     plain : ipv6 s ≡ eight (side true s)
     unfolding ipv6
     plain = simp (le-ltb (gap s) (length s) (gap_nowhere s p hp nowhere))

@@ -16,11 +16,11 @@ unfoldable pub push_all : Groups → List ℕ → Groups
 push_all r [] = r
 push_all r (g ∷ gs) = push_all (push r g) gs
 
--- groups after those of r, at most eight in all
-abbrev pub side_from : Groups → Option (List ℕ) → Option Groups
-side_from r (Some []) = Some r
-side_from r (Some (g ∷ gs)) = cond (leb (r.n + suc (length gs)) 8) (Some (push_all r (g ∷ gs))) None
-side_from r None = None
+-- groups after those of r, none where they are more than eight in all; with none to add r is as it was
+abbrev pub with_groups : Groups → Option (List ℕ) → Option Groups
+with_groups r (Some []) = Some r
+with_groups r (Some (g ∷ gs)) = cond (leb (r.n + suc (length gs)) 8) (Some (push_all r (g ∷ gs))) None
+with_groups r None = None
 
 abbrev pub whole_of : Groups → Option (ℕ × ℕ)
 whole_of r = cond {A = Option (ℕ × ℕ)} (eqb r.n 8) (Some (r.upper, r.lower)) None

@@ -6,7 +6,7 @@ ghost use Rattle.decimal.specs.Decimal.{below};
 ghost use Rattle.ipv4.specs.Parts.{before};
 ghost use Rattle.ipv4.specs.Ipv4.{ipv4};
 ghost use Rattle.ipv6.specs.Ipv6.{hex_digit, group as group_of, last_part, side as side_of, gap as gap_of, filled, as_ipv6, read_ipv6};
-ghost use Rattle.ipv6.specs.Groups.{shifted, side_from, whole_of};
+ghost use Rattle.ipv6.specs.Groups.{shifted, with_groups, whole_of};
 
 // What a hexadecimal digit stands for.
 #[tactic(auto, using(crate::proofs::Ipv6::from_0, crate::proofs::Ipv6::from_A, crate::proofs::Ipv6::from_a, crate::proofs::Ipv6::no_hex_digit))]
@@ -61,7 +61,7 @@ impl Groups {
     // One group more; None where there are eight.
     #[tactic(auto, using(crate::proofs::Ipv6::push_full, crate::proofs::Ipv6::push_upper, crate::proofs::Ipv6::push_lower))]
     fn push(self, g: u16) -> Option<Groups>
-        ensures { result ≡ side_from self (Some (g ∷ [])) }
+        ensures { result ≡ with_groups self (Some (g ∷ [])) }
     {
         if 7 < self.n {
             return None;
@@ -106,9 +106,10 @@ fn gap(s: &[u8]) -> Option<usize>
 }
 
 // The last part of a side: a group, or where that is allowed an IPv4 address.
+// Stays a bool, handed on by `side`: it is tested here alone.
 #[tactic(auto, using(crate::proofs::Sides::part_group, crate::proofs::Sides::part_bare, crate::proofs::Sides::part_none, crate::proofs::Sides::part_crowded, crate::proofs::Sides::part_dotted))]
 fn last_part(t: &[u8], dotted: bool, r: Groups) -> Option<Groups>
-    ensures { result ≡ side_from r (last_part dotted (group_of t.now) (ipv4 t.now)) }
+    ensures { result ≡ with_groups r (last_part dotted (group_of t.now) (ipv4 t.now)) }
 {
     if let Some(g) = group(t) {
         return r.push(g);
@@ -123,7 +124,7 @@ fn last_part(t: &[u8], dotted: bool, r: Groups) -> Option<Groups>
 // The groups of s after those of `start`, at most eight in all.
 #[tactic(auto, using(crate::proofs::Sides::side_empty, crate::proofs::Sides::side_start, crate::proofs::Sides::side_stop, crate::proofs::Sides::side_full))]
 fn side(s: &[u8], dotted: bool, start: Groups) -> Option<Groups>
-    ensures { result ≡ side_from start (side_of dotted s.now) }
+    ensures { result ≡ with_groups start (side_of dotted s.now) }
 {
     if s.is_empty() {
         return Some(start);
@@ -131,7 +132,8 @@ fn side(s: &[u8], dotted: bool, start: Groups) -> Option<Groups>
     let mut t = s;
     let mut r = start;
     let mut e = part_end(t, b':');
-    // Stays a while: the last part is read otherwise, so no iterator over the parts fits.
+    // Stays a while: the last part is read otherwise. With it cut off at the last ':', and a for
+    // over `split` of what stands before, the proof did not close in a short try.
     while e < t.len() {
         let g = group(&t[..e])?;
         r = r.push(g)?;
@@ -144,7 +146,7 @@ fn side(s: &[u8], dotted: bool, start: Groups) -> Option<Groups>
 // Zero groups until there are m.
 #[tactic(auto, using(crate::proofs::Sides::fill_full, crate::proofs::Sides::fill_end))]
 fn fill(start: Groups, m: usize) -> Option<Groups>
-    ensures { result ≡ side_from start (Some (replicate (m - start.n) 0)) }
+    ensures { result ≡ with_groups start (Some (replicate (m - start.n) 0)) }
 {
     let mut r = start;
     for _n in start.n..m {
@@ -157,11 +159,7 @@ fn fill(start: Groups, m: usize) -> Option<Groups>
 fn whole(r: Groups) -> Option<(u64, u64)>
     ensures { result ≡ whole_of r }
 {
-    if r.n == 8 {
-        Some((r.upper, r.lower))
-    } else {
-        None
-    }
+    (r.n == 8).then_some((r.upper, r.lower))
 }
 
 // Left and right of "::", with the zero groups that it stands for. The right side is read once for

@@ -24,6 +24,7 @@ fn put_text<F: FnOnce(&mut Writer)>(write: F, out: &mut Answer) -> io::Result<()
 }
 
 // The address that s says, printed.
+// Stays beside the same for a prefix, here and below: one for both would take two closures.
 fn put_read_address(s: &[u8], out: &mut Answer) -> io::Result<()> {
     match network::read_address(s) {
         Some(a) => put_text(|w| network_display::write_address(a, w), out),

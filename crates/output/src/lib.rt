@@ -31,6 +31,7 @@ fn copy_many<const N: usize>(text: &[u8], out: &mut [u8])
     ensures { out.new ≡ text.now }
 {
     let last = text.len() - N;
+    // Stays by places: both lists are cut at the same ones, and the last step overlaps.
     for i in (0..last).step_by(N) {
         copy_step::<N>(text, out, i);
     }
@@ -73,6 +74,7 @@ fn copy_first(text: &[u8], out: &mut [u8]) -> usize
 }
 
 // All of the text at the list's front, or a refusal where the list is too short.
+// Stays without a closure that writes the text: a public function asks nothing of its callers.
 #[tactic(auto, unfolding(crate::specs::Output::answer, crate::specs::Output::front))]
 pub fn put(text: &[u8], out: &mut [u8]) -> Result<usize, PutError>
     ensures { (result ≡ answer text.now out.old) × (out.new ≡ front text.now out.old) }

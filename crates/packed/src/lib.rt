@@ -14,7 +14,7 @@ use text_dump::Remembered;
 use text_dump_line::PrefixText;
 
 // Stays numbers: an enum that holds the prefix is copied in other pieces than it was written
-// in, which stalls the processor (docs/PERFORMANCE.md: -12 %, -9 %).
+// in, which stalls the processor (docs/PERFORMANCE.md: -9 %).
 // The kind: 0 nothing, 1 invalid text, 2 a prefix; then the version of its address, 4 or 6, the
 // address in two halves, and its length.
 #[derive(Clone, Copy)]
@@ -38,6 +38,8 @@ fn no_prefix(kind: u64) -> Packed
     }
 }
 
+// Stays functions by name, and no From: pack_behind takes two values, so only three of the four
+// could be one, and they read as one family.
 #[tactic(auto, using(crate::proofs::PackedLaws::kept_laws))]
 pub fn pack_prefix(p: NetworkPrefix) -> Packed
     ensures { remembered_in result ≡ Valid p }

@@ -35,7 +35,8 @@ fn is_letter(b: u8) -> bool
 }
 
 // What a letter tells.
-// Stays by way of its number, with no branch: none would guess which letter comes.
+// Stays by way of its number, with no branch: none would guess which letter comes
+// (docs/PERFORMANCE.md: -4 %, -5 %).
 #[tactic(auto, using(crate::proofs::OriginLaws::letter_byte))]
 fn origin_by(b: u8) -> Origin
     requires { is_known (letter (b ∷ [])) ≡ true }
@@ -61,6 +62,7 @@ pub fn origin_of(s: &[u8]) -> Option<Origin>
 
 // The number from `at` on, with the place after it, where it has at most seven digits and a space
 // after these, as nearly every one has. Eight bytes are read as a little-endian u64.
+// Stays apart from psv_stream's plain_digits: that counts digits, and makes no number of them.
 fn plain_number(part: &[u8], at: usize) -> Option<(u32, usize)>
     ensures { IsPlain part.now at result }
 {

@@ -87,6 +87,22 @@ module _ {F P : Type 0} (g : Mut F (P × (Bor (List ℕ) × (MutBor (List ℕ) �
 
 pub ruleset walk_laws = (inside, within, stops_within)
 
+-- what the head comes to, by why its lines end
+abbrev pub HeadEnds : {P : Type 0} → Phase → List ℕ → Bool → List ℕ → Phase → Taken P → List ℕ → Type 0
+HeadEnds p₀ s ended out₀ p r new =
+    (r.end ≡ end.Full → Heads p₀ s ended out₀ (record { phase = p; consumed = r.consumed; written = r.written; starved = false }) new)
+    × (r.end ≡ end.Left → Heads p₀ s ended out₀ (record { phase = p; consumed = r.consumed; written = r.written; starved = false }) new)
+    × (r.end ≡ end.Starved → Heads p₀ s ended out₀ (record { phase = p; consumed = r.consumed; written = r.written; starved = true }) new)
+    × (r.end ≡ end.Stopped → (t : Ran) → t ≡ record { phase = Stopped; consumed = r.consumed; written = r.written; starved = false } → Heads p₀ s ended out₀ t new)
+
+-- and the body
+abbrev pub BodyEnds : {P : Type 0} → Phase → List ℕ → Bool → List ℕ → Phase → Taken P → List ℕ → Type 0
+BodyEnds p₀ s ended out₀ p r new =
+    (r.end ≡ end.Full → (t : Ran) → t ≡ record { phase = p; consumed = r.consumed; written = r.written; starved = false } → Runs p₀ s ended out₀ t new)
+    × (r.end ≡ end.Left → ⊥)
+    × (r.end ≡ end.Starved → (t : Ran) → t ≡ record { phase = p; consumed = r.consumed; written = r.written; starved = true } → Runs p₀ s ended out₀ t new)
+    × (r.end ≡ end.Stopped → (t : Ran) → t ≡ record { phase = Stopped; consumed = r.consumed; written = r.written; starved = false } → Runs p₀ s ended out₀ t new)
+
 -- a step that does what Steps says, as long as I holds; π is the phase of a place
 abbrev pub step_by : {P : Type 0} → (P → Phase) → Step P → Step Phase
 step_by π (step.Took d v q) = step.Took d v (π q)
@@ -203,6 +219,9 @@ module _ {F P : Type 0} (g : Mut F (P × (Bor (List ℕ) × (MutBor (List ℕ) �
         go (Some (step.Stops n)) k z = let y : end.Left ≡ end.Stopped = sym f ∙ z.0 in cc
         go (Some (step.Took d n q)) k z = absurd z
 
+    pub head_ends : HeadEnds (π p₀) s ended out₀ (π r.place) r new
+    head_ends = (head_full, head_left, head_starves, head_stops)
+
     -- in the body
     body_last : (b : Bool) → Came (π p₀) s ended out₀ (π r.place) r.consumed r.written new → (b ≡ true → Starved (drop r.consumed s) (header_bytes (π r.place)) ended) → (b ≡ false → length out₀ - r.written < 65537)
         → Runs (π p₀) s ended out₀ (record { phase = π r.place; consumed = r.consumed; written = r.written; starved = b }) new
@@ -238,6 +257,9 @@ module _ {F P : Type 0} (g : Mut F (P × (Bor (List ℕ) × (MutBor (List ℕ) �
         go (Some step.Starved) k z = let y : end.Left ≡ end.Starved = sym f ∙ z.0 in cc
         go (Some (step.Stops n)) k z = let y : end.Left ≡ end.Stopped = sym f ∙ z.0 in cc
         go (Some (step.Took d n q)) k z = absurd z
+
+    pub body_ends : ((f f' : F) (p : P) (t o o' : List ℕ) → I f p → StepsAt g f p t o step.Leaves f' o' → ⊥) → BodyEnds (π p₀) s ended out₀ (π r.place) r new
+    body_ends never = (body_full, never_left never, body_starves, body_stops)
 
 -- in the head a place is a phase
 head_same : (p : Phase) (t : List ℕ) (ended : Bool) (o o' : List ℕ) (r : Step Phase) → HeadSteps p t ended o o' r → HeadSteps p t ended o o' (step_by (λ q. q) r)

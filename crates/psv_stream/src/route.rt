@@ -25,6 +25,8 @@ fn put_element(e: Element, asns: &[u32], out: &mut [u8; LINE]) -> Result<usize, 
 }
 
 // A route's line by the numbers of its path.
+// Stays state, prefix and entry apart here and below: they are what State::element puts together,
+// and it is asked for an element only where the line is not copied.
 fn print_numbers(
     state: State,
     prefix: NetworkPrefix,

@@ -2,6 +2,9 @@
 // side by side: after each call the answer, every field of the state and every place of the AS list
 // are compared. Where the listing is cut at line feeds, the elements are compared with those of the
 // joined body too. Prints a line for each group.
+//
+// Stays with the handle, the tally, the text and its cut as parameters of what runs cases: the
+// calls below take them one by one, so a struct of them would be taken apart at each.
 #![tactic(auto)]
 
 use cases::Tally;

@@ -2,6 +2,9 @@
 // otherwise end in an element, End, 6 or 7: the answer is 5, and the state and every AS place are
 // as they were. States at the edge of each way are held to the plain reader. Prints a line for
 // each group.
+//
+// Stays with the handle, the tally, the part and the places as parameters of what runs cases: the
+// calls below take them one by one, so a struct of them would be taken apart at each.
 #![tactic(auto)]
 
 use cases::Tally;

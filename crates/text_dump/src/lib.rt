@@ -230,8 +230,8 @@ impl State {
         }
         let mut remembered = self.remembered;
         let mut at = self.position;
-        // Stays a while: scan::line_end looks at 64 bytes at a time (docs/PERFORMANCE.md: -7 %), an
-        // iterator over the lines at each.
+        // Stays a while: the library's iterator looks at each byte, scan::line_end at 64 at a time;
+        // one of ours would have to tell its place besides, which the state keeps.
         while at < part.len() {
             let start = at;
             at = scan::line_end(part, start);

@@ -81,6 +81,8 @@ fn is_displayed(t: &[u8]) -> bool
 }
 
 // Whether every column has its slice, which of an ASCII line the order of the places tells.
+// Stays a fact that three functions ask for: line_of finds out once whether the line is ASCII, and
+// a struct of the text and that answer would be made for these three alone.
 #[tactic(auto, using(crate::proofs::LineLaws::whole_laws))]
 fn is_whole(ascii: bool, t: &[u8], c: Columns) -> bool
     requires { ascii ≡ true → all is_one t.now ≡ true }

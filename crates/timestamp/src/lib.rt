@@ -78,6 +78,8 @@ fn moment_in(s: &[u8]) -> Option<u64>
     moment(date_of(s), two(s, 11), two(s, 13))
 }
 
+// Stays a bound that three functions ask for: a slice from i on is there only within the path, and
+// first_place gives them no other place.
 #[tactic(auto, using(crate::proofs::Shapes::none_before, crate::proofs::Shapes::one_before))]
 fn digit_before(path: &[u8], i: usize) -> bool
     requires { i ≤ length path.now }

@@ -38,6 +38,7 @@ fn is_four(a: u8, b: u8, c: u8, d: u8) -> bool
 }
 
 // How many bytes the character at the front has; 0 where none begins there.
+// Stays a length, 0 for none, as text's white space: walks add it, and 0 is where they end.
 #[tactic(auto, using(crate::proofs::CharLaws::char_laws))]
 pub fn char_len(s: &[u8]) -> usize
     ensures { result ≡ char_len s.now }
