@@ -10,6 +10,7 @@ const PLACES: usize = 10;
 
 // The i-th part lies between the places i and i + 1; the header ends at `header`, in the first
 // part.
+// Stays an array with its count: no heap is used, so no Vec.
 #[derive(Clone, Copy)]
 pub struct Cut {
     pub places: [usize; PLACES],
