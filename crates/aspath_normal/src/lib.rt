@@ -85,8 +85,8 @@ fn merge(last: Entry, next: Entry) -> Option<Entry>
 // The scan of coalesce, on the kinds and the lengths of all segments. Entries move down, and a
 // place that was read is set to 0.
 // Stays by index: two places move through one list, and an iterator would lend it once.
-// Stays with two lists of one length, as single_sets and sort_sets: each is lent another of them to
-// change, so one struct would not serve the three.
+// Stays with two lists of one length, as single_sets and sort_sets: here both are lent to change,
+// there the kinds alone or neither, so one struct would not serve the three.
 fn coalesce_entries(kinds: &mut [u8], lengths: &mut [u32]) -> usize
     requires { (length kinds.old ≡ length lengths.old) × (sum lengths.old ≤ 16384) }
     ensures { Coalesced kinds.old lengths.old kinds.new lengths.new result }

@@ -38,7 +38,7 @@ fn no_prefix(kind: u64) -> Packed
     }
 }
 
-// Stays functions by name, and no From: pack_behind takes two values, so only three of the four
+// Stays functions by name, and no From: pack_behind takes two values, so only four of the five
 // could be one, and they read as one family.
 #[tactic(auto, using(crate::proofs::PackedLaws::kept_laws))]
 pub fn pack_prefix(p: NetworkPrefix) -> Packed

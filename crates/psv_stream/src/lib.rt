@@ -161,8 +161,8 @@ fn refuse(why: Refusal, line: u64, out: &mut [u8; LINE]) -> usize
 }
 
 // The head, and then the body.
-// Stays the bytes at hand, whether they are the last, and the output, in what runs over lines: the
-// bytes are cut anew for each line, so a struct of them would be made anew for each.
+// Stays with the bytes at hand, whether they are the last, and the output as parameters of what
+// runs over lines: the bytes are cut anew for each line, and so a struct would be made for each.
 pub fn run(phase: Phase, input: &[u8], ended: bool, out: &mut [u8]) -> Ran
     ensures { Runs phase input.now ended out.old result out.new }
 {

@@ -139,8 +139,6 @@ impl<'a> Row<'a> {
         fields::read_address(self.slice(self.columns.next_hop, self.columns.metric))
     }
 
-    // Inlined, so that no number is copied.
-    #[inline(always)]
     #[tactic(auto, using(crate::proofs::LineLaws::number_read))]
     fn number(self, a: usize, b: usize) -> Option<u32>
         requires { self.is_whole ≡ true → has_slice self.text.now a b ≡ true }
@@ -169,14 +167,20 @@ impl<'a> Row<'a> {
         }
     }
 
-    #[inline(always)]
+    // The metric is read first, and handed on when the local preference is read.
+    // Stays a loop with one call of `number`, as any_route: with two calls in each reading took
+    // 9 % more time (docs/PERFORMANCE.md).
     #[tactic(auto, using(crate::proofs::LineLaws::entry_laws))]
     fn entry(self, next_hop: IpAddr) -> RouteEntry
         ensures { result ≡ entry_of self.entry.columns next_hop self.entry.text.now }
     {
         let c = self.columns;
-        let metric = self.number(c.metric, c.local_pref);
-        let local_pref = self.number(c.local_pref, c.weight);
+        let mut metric = None;
+        let mut local_pref = None;
+        for (a, b) in [(c.metric, c.local_pref), (c.local_pref, c.weight)] {
+            metric = local_pref;
+            local_pref = self.number(a, b);
+        }
         let path_start = self.path_start();
         let origin = path_text::origin_of(&self.text[path_start..]);
         RouteEntry {
@@ -189,7 +193,6 @@ impl<'a> Row<'a> {
         }
     }
 
-    #[inline(always)]
     #[tactic(auto, using(crate::proofs::LineLaws::route_laws), unfolding(crate::specs::Line::route_of))]
     fn route(self) -> Option<(PrefixText, RouteEntry)>
         ensures { result ≡ route_of self.entry.columns self.entry.text.now }
@@ -205,21 +208,30 @@ impl<'a> Row<'a> {
     }
 }
 
-// By the columns, else by those shifted. The calls are inlined, so that no route is copied.
+// By the columns, else by those shifted.
+// Stays a loop with one call, which the compiler joins in: with two calls, inlined or not, it took
+// more time (docs/PERFORMANCE.md: +9 % with those of Row::entry, +12 ns).
 #[tactic(auto, unfolding(crate::specs::Line::any_route))]
 fn any_route(ascii: bool, t: &[u8], c: Columns) -> Option<(PrefixText, RouteEntry)>
     requires { ascii ≡ true → all is_one t.now ≡ true }
     ensures { result ≡ any_route c t.now }
 {
-    let route = Row::new(ascii, t, c).route();
-    if route.is_some() {
-        return route;
+    for is_shifted in [false, true] {
+        let tried = if is_shifted {
+            // Stays let .. else, as in Row::route.
+            let Some(shifted) = columns::shift_columns_left(c) else {
+                return None;
+            };
+            shifted
+        } else {
+            c
+        };
+        let route = Row::new(ascii, t, tried).route();
+        if route.is_some() {
+            return route;
+        }
     }
-    // Stays let .. else, as in Row::route.
-    let Some(shifted) = columns::shift_columns_left(c) else {
-        return None;
-    };
-    Row::new(ascii, t, shifted).route()
+    None
 }
 
 // Not known to be ASCII, here and in the next function: the slices are tested.
