@@ -1,7 +1,9 @@
 -- Laws of spaces: a text of spaces alone, and spaces behind a text, as the loops meet them and as
 -- trimming does.
 use Rattle.std.proofs.Common.{◌≡◌, ℕ, zero, suc, ◌+◌, ◌-◌, ◌*◌, ◌/◌, ◌≤◌, Option, Some, None, is_some, is_none, Bool, true, false, cond, not, ◌&&◌, List, [], ◌∷◌, ◌++◌, length, get_or, take, drop, sym, refl, ap, ◌∙◌, append_assoc, append-nil, arith, length-append, length-drop, take-append-drop, take_all, take_at, eqb-true, le-leb}
-use Rattle.std.specs.List.{list_all, position, position_from}
+use Rattle.std.specs.List.{position, position_from}
+use mathlib.Core.List.{flatten}
+use Rattle.scan.proofs.ListLaws.{flatten_chunks}
 use Rattle.std.specs.Simd.{first_chunks}
 use Rattle.std.proofs.lemmas.Iterator.Adapters.{position_from-zero}
 use lib.Seq.{get_or_at, take-add}
@@ -37,13 +39,6 @@ none_is (Some i) true n = cc
 none_is (Some i) false n = refl
 
 -- and 8 bytes at a time
-eights_all : (n : ℕ) (t : List ℕ) → list_all (λ e. all is_blank e) (first_chunks 8 n t) ≡ all is_blank (take (n * 8) t)
-unfolding all
-eights_all zero t = refl
-eights_all (suc n) t =
-    let k : suc n * 8 ≡ 8 + n * 8 = omega arith in
-    rw (eights_all n (drop 8 t), k, take-add, all_append) refl
-
 module _ (s : List ℕ) (at : ℕ) (h : at ≤ length s) where
   abbrev left : List ℕ
   left = take (length s - at) (drop at s)
@@ -51,12 +46,12 @@ module _ (s : List ℕ) (at : ℕ) (h : at ≤ length s) where
   left_all : left ≡ drop at s
   left_all = take_all (length s - at) (drop at s) (rw length-drop (omega arith))
 
-  module _ (cs : List (List ℕ)) (q : cs ≡ first_chunks 8 (length left / 8) left) (y : Bool) (e : y ≡ list_all (λ e. all is_blank e) cs) where
+  module _ (cs : List (List ℕ)) (q : cs ≡ first_chunks 8 (length left / 8) left) (y : Bool) (e : y ≡ all is_blank (flatten cs)) where
     parted : all is_blank (drop at s) ≡ (y && all is_blank (drop (length left / 8 * 8) left))
     parted =
         ap (all is_blank) (sym left_all ∙ sym (take-append-drop (length left / 8 * 8) left))
         ∙ all_append is_blank (take (length left / 8 * 8) left) (drop (length left / 8 * 8) left)
-        ∙ rw (e, q, eights_all) refl
+        ∙ rw (e, q, flatten_chunks) refl
 
     pub spaces_none : y ≡ false → false ≡ all is_blank (drop at s)
     spaces_none f = sym (parted ∙ rw f)

@@ -4,7 +4,7 @@
 #![tactic(auto)]
 
 ghost use Rattle.std.specs.Prelude.{◌≡◌, ◌+◌, ◌%◌, ◌≤◌, length, drop, ◌==◌, not, IfSome};
-ghost use Rattle.std.specs.List.{position, list_all};
+ghost use Rattle.std.specs.List.{position};
 ghost use Rattle.utf8.specs.Utf8.{all};
 ghost use Rattle.text.specs.White.{trim as trimOf};
 ghost use Rattle.decimal.specs.Decimal.{read_u32};
@@ -34,12 +34,6 @@ fn first_ink(s: &[u8]) -> Option<usize>
     s.iter().position(|b| *b != b' ')
 }
 
-fn all_eights(eights: &[[u8; 8]]) -> bool
-    ensures { result ≡ list_all (λ e. all is_blank e) eights.now }
-{
-    eights.iter().all(|eight| scan::all_pass::<Space>(eight))
-}
-
 // Whether all bytes from `at` on are spaces, with 8 passed over at a time: what is left of a column
 // is mostly shorter than 16.
 #[tactic(auto, using(crate::proofs::SpaceLaws::all_laws))]
@@ -48,7 +42,7 @@ fn all_spaces(s: &[u8], at: usize) -> bool
     ensures { result ≡ all is_blank (drop at s.now) }
 {
     let (eights, rest) = s[at..].as_chunks::<8>();
-    all_eights(eights) && first_ink(rest).is_none()
+    scan::all_chunks_pass::<Space, 8>(eights) && first_ink(rest).is_none()
 }
 
 // A byte less 48, modulo 256: a digit is 0 to 9, any other byte is more.

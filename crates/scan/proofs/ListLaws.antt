@@ -1,17 +1,18 @@
 -- Laws of lists cut by a test of their elements.
 use Rattle.std.specs.Prelude.{Option, Some}
 use Rattle.std.specs.Option.{unwrap_or}
-use Rattle.std.specs.List.{position, position_from}
+use Rattle.std.specs.List.{list_all, position, position_from}
+use Rattle.std.specs.Simd.{first_chunks}
 use Rattle.std.proofs.lemmas.Iterator.Adapters.{position_from-zero}
-use Prim.Native.Nat.{ℕ, zero, suc, ◌+◌, ◌-◌, ◌≤◌, ◌<◌}
+use Prim.Native.Nat.{ℕ, zero, suc, ◌+◌, ◌-◌, ◌*◌, ◌≤◌, ◌<◌}
 use mathlib.Core.Path.{◌≡◌, refl, sym, ap, ◌∙◌}
 use mathlib.Core.Bool.{Bool, true, false, cond, not, ◌&&◌, and_assoc, and-true, false≢true}
 use mathlib.Core.List.{List, [], ◌∷◌, ◌++◌, flatten, nil≢cons}
 use native.Mathlib.Omega.{arith}
-use native.Mathlib.Nat.{add-zero}
+use native.Mathlib.Nat.{add-zero, zero-mul}
 use native.Mathlib.Numerals.{add-one}
 use lib.ListN.{length, get_or, take, drop, length-append, length-drop, drop_of_length-le}
-use lib.Seq.{take_all, take_at, drop_at, drop-cons, drop-drop, take-suc}
+use lib.Seq.{take_all, take_at, take-add, drop_at, drop-cons, drop-drop, take-suc}
 use Rattle.scan.specs.Lists.{onto, non_empty, all, take_while, drop_while, end_while, split_by, tokens_by}
 
 pub flatten_onto : {A : Type 0} (x : A) (l : List (List A)) → flatten (onto x l) ≡ x ∷ flatten l
@@ -30,6 +31,14 @@ unfolding non_empty
 non_empty_append [] b = refl
 non_empty_append ([] ∷ a) b = non_empty_append a b
 non_empty_append ((x ∷ w) ∷ a) b = rw (non_empty_append a b)
+
+-- the first n chunks of k elements, joined again
+pub flatten_chunks : {A : Type 0} (k n : ℕ) (t : List A) → flatten (first_chunks k n t) ≡ take (n * k) t
+unfolding flatten
+flatten_chunks k zero t = rw zero-mul refl
+flatten_chunks k (suc n) t =
+    let e : suc n * k ≡ k + n * k = omega arith in
+    rw (e, take-add) (ap (λ l. take k t ++ l) (flatten_chunks k n (drop k t)))
 
 module _ {A : Type 0} (p : A → Bool) where
   -- the longest front and what is behind it are the whole
@@ -116,6 +125,12 @@ module _ {A : Type 0} (p : A → Bool) where
 
     pub pass_all : length s ≤ i → r ≡ all p s
     pass_all h = e ∙ ap (all p) (take_all i s h)
+
+  -- of lists joined, all elements pass where those of each list do
+  pub all_flatten : (l : List (List A)) → list_all (λ c. all p c) l ≡ all p (flatten l)
+  unfolding all flatten
+  all_flatten [] = refl
+  all_flatten (c ∷ l) = ap (λ b. all p c && b) (all_flatten l) ∙ sym (all_append c (flatten l))
 
   -- where one of the first n does not pass, fewer stand before the first that does not
   pub all_before : (n : ℕ) (s : List A) → all p (take n s) ≡ false → length (take_while p s) < n

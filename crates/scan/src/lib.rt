@@ -3,6 +3,7 @@
 
 ghost use Rattle.std.specs.Prelude.{ℕ, Bool, ◌≡◌, cond, ◌+◌, ◌≤◌, ◌<◌, min, length, drop, not, leb, ◌&&◌};
 ghost use Rattle.std.specs.List.{position};
+ghost use mathlib.Core.List.{flatten};
 ghost use Rattle.scan.specs.Lists.{all, take_while, end_while};
 ghost use Rattle.scan.specs.Lines.{is_feed, not_feed, line_end};
 ghost use Rattle.scan.specs.Words.{is_gap, not_gap, next_word};
@@ -28,6 +29,18 @@ pub fn all_pass<T: ByteTest>(s: &[u8]) -> bool
         all &= T::passes(*b);
     }
     all
+}
+
+// Whether every byte of every chunk passes.
+#[inline(always)]
+pub fn all_chunks_pass<T: ByteTest, const N: usize>(chunks: &[[u8; N]]) -> bool
+    ensures { result ≡ all T.passing (flatten chunks.now) }
+{
+    chunks.iter().all(
+        |chunk| -> bool
+            ensures { result ≡ all T.passing chunk.now }
+        { all_pass::<T>(chunk) },
+    )
 }
 
 struct NotFeed;

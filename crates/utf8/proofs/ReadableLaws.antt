@@ -2,12 +2,14 @@
 use mathlib.Core.Path.{◌≡◌, refl, sym, ap, ◌∙◌}
 use mathlib.Core.List.{List, [], ◌∷◌, ◌++◌, flatten}
 use mathlib.Core.Bool.{Bool, true, false, not, ◌&&◌, and-false}
-use Prim.Native.Nat.{ℕ, ◌+◌, ◌-◌, ◌≤◌, ◌<◌}
+use Prim.Native.Nat.{ℕ, ◌-◌, ◌*◌, ◌/◌, ◌≤◌, ◌<◌}
 use native.Mathlib.Omega.{arith}
 use lib.Dec.{ltb}
 use lib.ListN.{length, take, drop, length-drop}
 use lib.Seq.{take_all, take-take}
 use borrow.Author.Tests.{leb-true, not-true, not-false}
+use Rattle.std.specs.Simd.{first_chunks}
+use Rattle.scan.proofs.ListLaws.{flatten_chunks}
 use Rattle.utf8.specs.Utf8.{is_one, char_len, piece_len, chars_from, chars, is_char, all, readable}
 use Rattle.utf8.proofs.TestLaws.{both}
 use Rattle.utf8.proofs.ListLaws.{all_append, all_parts, all_more, all_split}
@@ -30,34 +32,23 @@ ascii_readable s r e t = sym (go s (sym e ∙ t))
         let one : char_len (b ∷ s) ≡ 1 = sym (char_one (b ∷ s) (λ z. omega arith) (omega (arith, leb-true b 0x7F (both (is_one b) (all is_one s) e).0))) in
         readable_more (b ∷ s) (omega arith) ∙ simp one (go s (both (is_one b) (all is_one s) e).1)
 
--- is it ASCII, with 64 bytes at a time
-pub seen_none : true ≡ all is_one []
-unfolding all
-seen_none = refl
+-- is it ASCII: the chunks of 64 bytes, and then the last 64
+module _ (s : List ℕ) (chunks : List (List ℕ)) (y : Bool) (cut : chunks ≡ first_chunks 64 (length s / 64) s) (e : y ≡ all is_one (flatten chunks)) where
+  front_seen : y ≡ all is_one (take (length s / 64 * 64) s)
+  front_seen = e ∙ ap (all is_one) (ap flatten cut ∙ flatten_chunks 64 (length s / 64) s)
 
--- those in front of the place i are ASCII, and the next 64 have been looked at
-module _ (s : List ℕ) (i : ℕ) (r : Bool) (q : r ≡ all is_one (take (i + 64 - i) (drop i s))) where
-  next : r ≡ all is_one (take 64 (drop i s))
-  next = let z : i + 64 - i ≡ 64 = omega arith in rw z at q
+  pub ascii_bad : y ≡ false → false ≡ all is_one s
+  ascii_bad f = sym (all_split is_one s (length s / 64 * 64) ∙ rw (← front_seen, f))
 
-  pub ascii_bad : not r ≡ true → false ≡ all is_one s
-  ascii_bad n =
-      sym (all_split is_one s i
-      ∙ ap (λ b. all is_one (take i s) && b) (all_split is_one (drop i s) 64)
-      ∙ simp (← next, not-true r n, and-false))
-
-  pub ascii_more : true ≡ all is_one (take i s) → not r ≡ false → true ≡ all is_one (take (i + 64) s)
-  ascii_more e y = sym (all_more is_one s i 64 ∙ simp (← e, ← next, not-false r y))
-
--- the place i is behind the last 64 bytes, or among them
-pub ascii_last : (s : List ℕ) (i : ℕ) (r : Bool) → true ≡ all is_one (take i s) → length s - 64 ≤ i
-    → r ≡ all is_one (take (length s - (length s - 64)) (drop (length s - 64) s)) → r ≡ all is_one s
-ascii_last s i r e h q =
-    q ∙ ap (all is_one) (take_all (length s - (length s - 64)) (drop (length s - 64) s) (simp length-drop (omega arith)))
-    ∙ sym (all_split is_one s (length s - 64) ∙ simp (front (length s - 64) h))
-  where
-    front : (n : ℕ) → n ≤ i → all is_one (take n s) ≡ true
-    front n h = ap (all is_one) (sym (take-take n i s h)) ∙ (both _ _ (sym (all_split is_one (take i s) n) ∙ sym e)).0
+  pub ascii_last : y ≡ true → (r : Bool) → r ≡ all is_one (take (length s - (length s - 64)) (drop (length s - 64) s)) → r ≡ all is_one s
+  ascii_last t r q =
+      q ∙ ap (all is_one) (take_all (length s - (length s - 64)) (drop (length s - 64) s) (simp length-drop (omega arith)))
+      ∙ sym (all_split is_one s (length s - 64) ∙ simp (front (length s - 64) (omega arith)))
+    where
+      front : (n : ℕ) → n ≤ length s / 64 * 64 → all is_one (take n s) ≡ true
+      front n h =
+          ap (all is_one) (sym (take-take n (length s / 64 * 64) s h))
+          ∙ (both _ _ (sym (all_split is_one (take (length s / 64 * 64) s) n) ∙ sym front_seen ∙ t)).0
 
 -- a text parted in front of a byte that is no UTF8-tail is readable where both parts are
 pub readable_append : (q w : List ℕ) → Begins w → readable (q ++ w) ≡ (readable q && readable w)
@@ -69,5 +60,5 @@ readable_parts s l m e h =
     let r = all_parts is_char l m (ap (all is_char) (sym e) ∙ h) in
     (ap (all is_char) (chars_of_front l m s e) ∙ r.0, ap (all is_char) (chars_of_rest l m s e) ∙ r.1)
 
--- what the loop uses
-pub ruleset ascii_laws = (seen_none, ascii_bad, ascii_more, ascii_last)
+-- what is_ascii uses
+pub ruleset ascii_laws = (ascii_bad, ascii_last)

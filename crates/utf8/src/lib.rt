@@ -71,17 +71,11 @@ impl ByteTest for Ascii {
 pub fn is_ascii(s: &[u8]) -> bool
     ensures { result ≡ all is_one s.now }
 {
-    let n = s.len();
-    if n < 64 {
+    if s.len() < 64 {
         return scan::all_pass::<Ascii>(s);
     }
-    let last = n - 64;
-    for i in (0..last).step_by(64) {
-        if !scan::all_pass::<Ascii>(&s[i..i + 64]) {
-            return false;
-        }
-    }
-    scan::all_pass::<Ascii>(&s[last..])
+    let (chunks, _rest) = s.as_chunks::<64>();
+    scan::all_chunks_pass::<Ascii, 64>(chunks) && scan::all_pass::<Ascii>(&s[s.len() - 64..])
 }
 
 // Is it UTF-8?
