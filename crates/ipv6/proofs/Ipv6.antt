@@ -1,9 +1,8 @@
 -- Laws of groups, and of what stands around "::".
 use mathlib.Core.Path.{◌≡◌, refl, sym, ap, ◌∙◌}
 use mathlib.Core.List.{List, [], ◌∷◌}
-use mathlib.Core.Bool.{Bool, true, false, cond, not, ◌&&◌, and-false}
-use Rattle.std.specs.Prelude.{Option, Some, None, unwrap_or, position}
-use Rattle.std.specs.List.{position_or_len}
+use mathlib.Core.Bool.{Bool, true, false, cond, ◌&&◌, and-false}
+use Rattle.std.specs.Prelude.{Option, Some, None}
 use Prim.Native.Nat.{ℕ, suc, ◌+◌, ◌-◌, ◌*◌, ◌^◌, ◌≤◌, ◌<◌}
 use native.Mathlib.Numerals.{add-one}
 use native.Mathlib.Nat.{zero-add, add-zero}
@@ -18,11 +17,11 @@ use Rattle.std.proofs.Common.{inl, inr}
 use borrow.Author.Tests.{le-ltb, lt-ltb, lt-leb, le-leb, leb-true, ltb-true, ltb-false}
 use Rattle.scan.specs.Search.{equal, find_from, find_in}
 use Rattle.decimal.specs.Decimal.{below}
-use Rattle.ipv4.specs.Parts.{before, prepend, each, number}
+use Rattle.ipv4.specs.Parts.{prepend, each, number}
 use Rattle.ipv6.specs.Ipv6.{hex_digit, value_from, group, gap}
 use Rattle.ipv6.specs.Groups.{shifted, push, push_all, with_groups}
 use Rattle.ipv6.specs.declared.Groups.{Groups}
-use Rattle.ipv4.proofs.Parts.{number_grows, number_room, before_short}
+use Rattle.ipv4.proofs.Parts.{number_grows, number_room}
 
 -- the digits, and what is none
 module _ (b : ℕ) where
@@ -144,24 +143,6 @@ module _ (r : Groups) (g : ℕ) where
     pub push_lower : 4 ≤ r.n → Some (record { n = r.n + 1; upper = r.upper; lower = shifted r.lower g }) ≡ with_groups r (Some (g ∷ []))
     unfolding push
     push_lower h = ap (λ (x : Groups). Some x) (simp (le-ltb r.n 4 h)) ∙ push_some
-
--- the first part ends at the first c, else with the text
-before_count : (c : ℕ) (t : List ℕ) → position_or_len (λ b. eqb b c) t ≡ length (before c t)
-unfolding before
-before_count c [] = refl
-before_count c (b ∷ t) = go (eqb b c) (before_count c t)
-  where
-    go : (u : Bool) → position_or_len (λ b. eqb b c) t ≡ length (before c t)
-        → cond (not u) (1 + position_or_len (λ b. eqb b c) t) 0 ≡ length (cond u [] (b ∷ before c t))
-    go true h = refl
-    go false h = omega arith
-
-pub end_position : (c : ℕ) (t : List ℕ) (r : Option ℕ) → r ≡ position (λ b. eqb b c) t → unwrap_or r (length t) ≡ length (before c t)
-end_position c t r e = rw e (go (position_or_len (λ b. eqb b c) t) (before_count c t) (ltb (position_or_len (λ b. eqb b c) t) (length t)) refl)
-  where
-    go : (n : ℕ) → n ≡ length (before c t) → (u : Bool) → ltb n (length t) ≡ u → unwrap_or (cond u (Some n) None) (length t) ≡ length (before c t)
-    go n h true f = h
-    go n h false f = omega (arith, ltb-false n (length t) f, before_short c t)
 
 -- the first "::" is where the search finds it
 one_colon : (s : List ℕ) → equal (take 1 s) (58 ∷ []) ≡ eqb (get_or s 0 0) 58

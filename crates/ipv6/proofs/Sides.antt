@@ -3,8 +3,11 @@ use mathlib.Core.Path.{◌≡◌, refl, sym, ap, subst, ◌∙◌}
 use mathlib.Core.List.{List, [], ◌∷◌, ◌++◌}
 use mathlib.Core.Bool.{Bool, true, false, cond, not, ◌&&◌}
 use Rattle.std.specs.Prelude.{Option, Some, None}
+use Rattle.std.specs.List.{slice_split, onto_first}
+use Rattle.std.proofs.lemmas.Iterator.{YieldsList}
+use denote.Ref.{Bor}
+use Rattle.scan.specs.Lists.{split_by, onto}
 use Prim.Native.Nat.{ℕ, zero, suc, ◌+◌, ◌-◌, ◌*◌, ◌/◌, ◌%◌, ◌^◌, ◌≤◌, ◌<◌}
-use native.Mathlib.Numerals.{add-one}
 use native.Mathlib.Nat.{zero-add, add-zero}
 use native.Mathlib.Omega.{arith}
 use lib.ListN.{length, take, drop, length-drop, replicate, length-append, length-replicate}
@@ -14,12 +17,12 @@ use mir.Val.{Fits}
 use lib.Dec.{eqb, leb, ltb}
 use borrow.Author.Tests.{le-ltb, lt-ltb, lt-leb, le-leb, eq-eqb, ne_eqb, leb-true, leb-false, eqb-true, eqb-false, not-true}
 use Rattle.decimal.specs.Decimal.{below}
-use Rattle.ipv4.specs.Parts.{parts, before, prepend, each, number}
+use Rattle.ipv4.specs.Parts.{parts, prepend, each, number}
 use Rattle.ipv4.specs.Ipv4.{ipv4}
 use Rattle.ipv6.specs.Ipv6.{hex_digit, value_from, group, last_part, groups, side, gap, filled, eight, ipv6, upper, lower, as_ipv6}
 use Rattle.ipv6.specs.Groups.{no_groups, shifted, push, push_all, with_groups, whole_of}
 use Rattle.ipv6.specs.declared.Groups.{Groups}
-use Rattle.ipv4.proofs.Parts.{parts_last, parts_more, parts_cons, before_take, each_length, each_small, number_room}
+use Rattle.ipv4.proofs.Parts.{parts_cons, each_length, each_small, number_room}
 use Rattle.ipv4.proofs.Ipv4.{ipv4_small}
 use Rattle.ipv6.proofs.Ipv6.{digit_small, gap_nowhere, gap_there}
 
@@ -106,41 +109,79 @@ unfolding side
 side_empty [] dotted r h = refl
 side_empty (b ∷ s) dotted r h = absurd (omega arith)
 
-pub side_start : (s : List ℕ) (dotted : Bool) (r : Groups) → (length s ≡ 0 → ⊥) → with_groups r (side dotted s) ≡ with_groups r (groups dotted (parts 58 s))
-unfolding side
-side_start [] dotted r h = absurd (h refl)
-side_start (b ∷ s) dotted r h = refl
-
 -- a part that is not the last
 pub groups_more : (dotted : Bool) (p u : List ℕ) → groups dotted (p ∷ parts 58 u) ≡ prepend (group p) (groups dotted (parts 58 u))
 unfolding groups
 groups_more dotted p u = rw (parts_cons 58 u)
 
--- the groups so far are in r, and the others are those of t
-module _ (s t : List ℕ) (dotted : Bool) (r₀ r : Groups) (inv : with_groups r₀ (side dotted s) ≡ with_groups r (groups dotted (parts 58 t)))
-    (e : ℕ) (he : e ≡ length (before 58 t)) where
-  pub side_last : length t ≤ e → (z : Option Groups) → z ≡ with_groups r (last_part dotted (group t) (ipv4 t)) → z ≡ with_groups r₀ (side dotted s)
-  unfolding groups
-  side_last h z f = f ∙ sym (inv ∙ rw (parts_last 58 t (omega arith), ← before_take 58 t, ← he, take_all e t h))
+-- std's cut of a text into its parts is ours
+cut_parts : (c : ℕ) (s : List ℕ) → slice_split (λ b. eqb b c) s ≡ parts c s
+unfolding split_by onto
+cut_parts c [] = refl
+cut_parts c (b ∷ s) = rw (cut_parts c s) (go (eqb b c) (parts c s))
+  where
+    go : (t : Bool) (ps : List (List ℕ)) → cond t ([] ∷ ps) (onto_first b ps) ≡ cond t ([] ∷ ps) (onto b ps)
+    go true ps = refl
+    go false [] = refl
+    go false (p ∷ ps) = refl
 
-  module _ (h : e < length t) (x : Option ℕ) (hx : x ≡ group (take e t)) where
-    first : groups dotted (parts 58 t) ≡ prepend (group (take e t)) (groups dotted (parts 58 (drop (e + 1) t)))
-    first = rw (parts_more 58 t (omega arith), ← he, add-one) (groups_more dotted (before 58 t) (drop (suc e) t) ∙ rw (← before_take 58 t, ← he))
+side_parts : (s : List ℕ) (ps : List (List ℕ)) (dotted : Bool) (r : Groups) → eqb (length s) 0 ≡ false → slice_split (λ b. eqb b 58) s ≡ ps
+    → with_groups r (side dotted s) ≡ with_groups r (groups dotted ps)
+unfolding side
+side_parts [] ps dotted r h e = let z : ◌≡◌ {A = ℕ} 0 1 = cc in absurd (omega arith)
+side_parts (b ∷ s) ps dotted r h e = rw (sym (cut_parts 58 (b ∷ s)) ∙ e)
 
-    pub side_stop : x ≡ None → None ≡ with_groups r₀ (side dotted s)
-    side_stop g = rw (inv, first, ← hx, g)
+-- an iterator over parts that gives ps
+abbrev pub Gives : {S : Type 0} → (S → Option (Bor (List ℕ)) → S → Type 0) → S → List (List ℕ) → Type 0
+Gives steps i ps = YieldsList steps (λ x. x.now) i ps
 
-    module _ (g : ℕ) (hg : x ≡ Some g) (z : Option Groups) (hz : z ≡ with_groups r (Some (g ∷ []))) where
-      pub side_full : z ≡ None → None ≡ with_groups r₀ (side dotted s)
-      side_full f = sym (inv ∙ rw (first, ← hx, hg) (from_full r g (groups dotted (parts 58 (drop (e + 1) t))) (push_none r g z hz f)))
+-- what its next call, which answers m, says of them
+module _ {S : Type 0} (steps : S → Option (Bor (List ℕ)) → S → Type 0) (i j : S) (m : Option (Bor (List ℕ))) (step : steps i m j) where
+  none_left : (ps : List (List ℕ)) → Gives steps i ps → m ≡ None → ps ≡ []
+  none_left [] y e = refl
+  none_left (p ∷ ps) y e = absurd (y.runs.0 j (subst (λ n. steps i n j) e step))
 
-      pub side_next : (y : Groups) → z ≡ Some y
-          → with_groups r₀ (side dotted s) ≡ with_groups y (groups dotted (parts 58 (take (length t - (e + 1)) (drop (e + 1) t))))
-      side_next y f =
-          let pushed : (y ≡ push r g) × (r.n ≤ 7) = push_is r g z hz y f in
-          inv
-          ∙ rw (first, ← hx, hg, take_all (length t - (e + 1)) (drop (e + 1) t) (simp length-drop (omega arith)), pushed.0)
-          (from_prepend r g (groups dotted (parts 58 (drop (e + 1) t))) pushed.1)
+  one_more : (ps : List (List ℕ)) → Gives steps i ps → (q : Bor (List ℕ)) → m ≡ Some q → (qs : List (List ℕ)) × Gives steps j qs × (ps ≡ q.now ∷ qs)
+  one_more [] y q e = absurd (y.runs q j (subst (λ n. steps i n j) e step))
+  one_more (p ∷ ps) y q e =
+      let z = y.runs.1 q j (subst (λ n. steps i n j) e step) in (ps, record { runs = z.1 }, ap (λ x. x ∷ ps) (sym z.0))
+
+-- the groups of s so far are in r, and the others are those of the part p and of the parts that i gives
+abbrev pub Reading : {S : Type 0} → (S → Option (Bor (List ℕ)) → S → Type 0) → List ℕ → Bool → Groups → S → List ℕ → Groups → Type 0
+Reading steps s dotted r₀ i p r =
+    (ps : List (List ℕ)) × Gives steps i ps × (with_groups r₀ (side dotted s) ≡ with_groups r (groups dotted (p ∷ ps)))
+
+module _ {S : Type 0} (steps : S → Option (Bor (List ℕ)) → S → Type 0) (s : List ℕ) (dotted : Bool) (r₀ : Groups) (i j : S) (m : Option (Bor (List ℕ))) (step : steps i m j) where
+  pub side_start : eqb (length s) 0 ≡ false → Gives steps i (slice_split (λ b. eqb b 58) s) → (q : Bor (List ℕ)) → m ≡ Some q
+      → (k : S) → k ≡ j → Reading steps s dotted r₀ k q.now r₀
+  side_start h y q e k f =
+      let z = one_more steps i j m step (slice_split (λ b. eqb b 58) s) y q e in
+      (z.0, subst (λ l. Gives steps l z.0) (sym f) z.1, side_parts s (q.now ∷ z.0) dotted r₀ h z.2)
+
+  module _ (p : List ℕ) (r : Groups) (here : Reading steps s dotted r₀ i p r) where
+    pub side_last : m ≡ None → (z : Option Groups) → z ≡ with_groups r (last_part dotted (group p) (ipv4 p)) → z ≡ with_groups r₀ (side dotted s)
+    unfolding groups
+    side_last e z f = f ∙ sym (here.2 ∙ rw (none_left steps i j m step here.0 here.1 e))
+
+    module _ (q : Bor (List ℕ)) (e : m ≡ Some q) (x : Option ℕ) (hx : x ≡ group p) where
+      more : (qs : List (List ℕ)) × Gives steps j qs × (here.0 ≡ q.now ∷ qs)
+      more = one_more steps i j m step here.0 here.1 q e
+
+      first : (y : Option ℕ) → x ≡ y → with_groups r₀ (side dotted s) ≡ with_groups r (prepend y (groups dotted (q.now ∷ more.0)))
+      unfolding groups
+      first y f = here.2 ∙ ap (λ l. with_groups r (groups dotted (p ∷ l))) more.2 ∙ ap (λ n. with_groups r (prepend n (groups dotted (q.now ∷ more.0)))) (sym hx ∙ f)
+
+      pub side_stop : x ≡ None → None ≡ with_groups r₀ (side dotted s)
+      side_stop f = sym (first None f)
+
+      module _ (g : ℕ) (hg : x ≡ Some g) (z : Option Groups) (hz : z ≡ with_groups r (Some (g ∷ []))) where
+        pub side_full : z ≡ None → None ≡ with_groups r₀ (side dotted s)
+        side_full f = sym (first (Some g) hg ∙ from_full r g (groups dotted (q.now ∷ more.0)) (push_none r g z hz f))
+
+        pub side_next : (y : Groups) → z ≡ Some y → Reading steps s dotted r₀ j q.now y
+        side_next y f =
+            let pushed : (y ≡ push r g) × (r.n ≤ 7) = push_is r g z hz y f in
+            (more.0, more.1, first (Some g) hg ∙ rw pushed.0 (from_prepend r g (groups dotted (q.now ∷ more.0)) pushed.1))
 
 -- zero groups
 abbrev pub zeros_from : Groups → ℕ → Option Groups

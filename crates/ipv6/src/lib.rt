@@ -1,9 +1,8 @@
 // IPv6 addresses, read from text as RFC 4291 and 01 say.
 #![tactic(auto)]
 
-ghost use Rattle.std.specs.Prelude.{◌≡◌, ◌+◌, ◌-◌, ◌≤◌, ◌==◌, true, false, Some, [], ◌∷◌, length, replicate, position};
+ghost use Rattle.std.specs.Prelude.{◌≡◌, ◌-◌, true, false, Some, [], ◌∷◌, length, replicate};
 ghost use Rattle.decimal.specs.Decimal.{below};
-ghost use Rattle.ipv4.specs.Parts.{before};
 ghost use Rattle.ipv4.specs.Ipv4.{ipv4};
 ghost use Rattle.ipv6.specs.Ipv6.{hex_digit, group as group_of, last_part, side as side_of, gap as gap_of, filled, as_ipv6, read_ipv6};
 ghost use Rattle.ipv6.specs.Groups.{shifted, with_groups, whole_of};
@@ -83,20 +82,6 @@ impl Groups {
     }
 }
 
-fn first_place(t: &[u8], c: u8) -> Option<usize>
-    ensures { result ≡ position (λ b. b == c) t.now }
-{
-    t.iter().position(|b| *b == c)
-}
-
-// Where the first part of t ends.
-#[tactic(auto, using(crate::proofs::Ipv6::end_position))]
-fn part_end(t: &[u8], c: u8) -> usize
-    ensures { result ≡ length (before c t.now) }
-{
-    first_place(t, c).unwrap_or(t.len())
-}
-
 // The place of the first "::".
 #[tactic(auto, using(crate::proofs::Ipv6::gap_found))]
 fn gap(s: &[u8]) -> Option<usize>
@@ -122,25 +107,22 @@ fn last_part(t: &[u8], dotted: bool, r: Groups) -> Option<Groups>
 }
 
 // The groups of s after those of `start`, at most eight in all.
-#[tactic(auto, using(crate::proofs::Sides::side_empty, crate::proofs::Sides::side_start, crate::proofs::Sides::side_stop, crate::proofs::Sides::side_full))]
+#[tactic(auto, using(crate::proofs::Sides::side_empty))]
 fn side(s: &[u8], dotted: bool, start: Groups) -> Option<Groups>
     ensures { result ≡ with_groups start (side_of dotted s.now) }
 {
     if s.is_empty() {
         return Some(start);
     }
-    let mut t = s;
+    // A part is read when the next one is there: the last part is read otherwise.
+    let mut parts = s.split(|b| *b == b':');
+    let mut last = parts.next()?;
     let mut r = start;
-    let mut e = part_end(t, b':');
-    // Stays a while: the last part is read otherwise. With it cut off at the last ':', and a for
-    // over `split` of what stands before, the proof did not close in a short try.
-    while e < t.len() {
-        let g = group(&t[..e])?;
-        r = r.push(g)?;
-        t = &t[e + 1..];
-        e = part_end(t, b':');
+    for part in parts {
+        r = r.push(group(last)?)?;
+        last = part;
     }
-    last_part(t, dotted, r)
+    last_part(last, dotted, r)
 }
 
 // Zero groups until there are m.
