@@ -8,8 +8,7 @@ use Prim.Native.Nat.{ℕ, zero, suc, ◌+◌, ◌-◌, ◌*◌, ◌^◌, ◌≤�
 use native.Mathlib.Numerals.{add-one}
 use native.Mathlib.Nat.{zero-add}
 use native.Mathlib.Omega.{arith}
-use lib.ListN.{length, get_or, drop, length-drop}
-use lib.Seq.{drop-drop}
+use lib.ListN.{length, get_or, drop}
 use mir.Syntax.{w32}
 use mir.Val.{Fits}
 use lib.Dec.{eqb, leb, ltb}
@@ -17,8 +16,8 @@ use borrow.Author.Tests.{le-ltb, lt-ltb, lt-leb, le-leb, eq-eqb, ne_eqb, ltb-tru
 use Rattle.decimal.specs.Decimal.{is_digit, behind, digits, below}
 use Rattle.decimal.proofs.Laws.{too_big}
 use Rattle.ipv4.specs.Parts.{parts, before, prepend, each, number}
-use Rattle.ipv4.specs.Ipv4.{leading_zero, octet, four, ipv4, placed, octet_at}
-use Rattle.ipv4.proofs.Parts.{each_small, number_grows, number_room, before_here, before_end, before_step, before_first, parts_last, parts_more, parts_cons, later}
+use Rattle.ipv4.specs.Ipv4.{leading_zero, octet, four, ipv4, placed, first_octet}
+use Rattle.ipv4.proofs.Parts.{before_short, each_small, number_grows, number_room, before_here, before_end, before_step, before_first, parts_last, parts_more, parts_cons, later}
 
 -- the digits of a part that has some
 digits_some : (p : List ℕ) → (length p ≡ 0 → ⊥) → digits p ≡ behind 0 p
@@ -40,101 +39,97 @@ no_octet p h = rw h (go (leb (length p) 3 && not (leading_zero p)))
     go false = refl
 
 -- the digits read: their octet
-module _ (s : List ℕ) (at end v : ℕ) (hl : at + length (before 46 (drop at s)) ≡ end) (hd : behind 0 (before 46 (drop at s)) ≡ Some v) (hv : v ≤ 255) where
-  pub octet_empty : end - at ≡ 0 → None ≡ octet_at at (drop at s)
+module _ (t : List ℕ) (n v : ℕ) (hl : length (before 46 t) ≡ n) (hd : behind 0 (before 46 t) ≡ Some v) (hv : v ≤ 255) where
+  pub octet_empty : n ≡ 0 → None ≡ first_octet t
   unfolding digits
-  octet_empty h = rw (no_octet (before 46 (drop at s)) (go (before 46 (drop at s)) (omega arith)))
+  octet_empty h = rw (no_octet (before 46 t) (go (before 46 t) (omega arith)))
     where
       go : (q : List ℕ) → length q ≡ 0 → below 256 (digits q) ≡ None
       go [] e = refl
       go (b ∷ q) e = absurd (omega arith)
 
-  pub octet_long : 3 < end - at → None ≡ octet_at at (drop at s)
+  pub octet_long : 3 < n → None ≡ first_octet t
   unfolding octet
-  octet_long h = simp (lt-leb (length (before 46 (drop at s))) 3 (omega arith))
+  octet_long h = simp (hl, lt-leb n 3 h)
 
-  pub octet_count : (end - at ≡ 1 → ⊥) → (2 ≤ end - at → end - at ≤ 3 → ⊥) → None ≡ octet_at at (drop at s)
-  octet_count k l = go (leb (end - at) 3) refl
+  pub octet_count : (n ≡ 1 → ⊥) → (2 ≤ n → n ≤ 3 → ⊥) → None ≡ first_octet t
+  octet_count k l = go (leb n 3) refl
     where
-      go : (t : Bool) → leb (end - at) 3 ≡ t → None ≡ octet_at at (drop at s)
-      go true e = let m : end - at ≤ 3 = leb-true (end - at) 3 e in octet_empty (few (end - at) m k l)
+      go : (u : Bool) → leb n 3 ≡ u → None ≡ first_octet t
+      go true e = let m : n ≤ 3 = leb-true n 3 e in octet_empty (few n m k l)
         where
           few : (n : ℕ) → n ≤ 3 → (n ≡ 1 → ⊥) → (2 ≤ n → n ≤ 3 → ⊥) → n ≡ 0
           few zero m k l = refl
           few (suc zero) m k l = absurd (k refl)
           few (suc (suc n)) m k l = absurd (l (omega arith) m)
-      go false e = octet_long (leb-false (end - at) 3 e)
+      go false e = octet_long (leb-false n 3 e)
 
-  pub octet_zero : 1 < end - at → get_or s at 0 ≡ 48 → None ≡ octet_at at (drop at s)
+  pub octet_zero : 1 < n → get_or t 0 0 ≡ 48 → None ≡ first_octet t
   unfolding octet
-  octet_zero h e =
-      simp (lt-ltb 1 (length (before 46 (drop at s))) (omega arith), before_first 46 s at (omega arith), eq-eqb (get_or s at 0) 48 e, and-false)
+  octet_zero h e = simp (hl, lt-ltb 1 n h, before_first 46 t (omega arith), eq-eqb (get_or t 0 0) 48 e, and-false)
 
-  value : (end - at ≡ 0 → ⊥) → below 256 (digits (before 46 (drop at s))) ≡ Some v
-  value h = simp (digits_some (before 46 (drop at s)) (λ e. h (omega arith)), hd, lt-ltb v 256 (omega arith))
+  value : (n ≡ 0 → ⊥) → below 256 (digits (before 46 t)) ≡ Some v
+  value h = simp (digits_some (before 46 t) (λ e. h (omega arith)), hd, lt-ltb v 256 (omega arith))
 
-  pub octet_one : (end - at ≡ 0 → ⊥) → end - at ≤ 3 → end - at ≤ 1 → Some (v, end) ≡ octet_at at (drop at s)
+  pub octet_one : (n ≡ 0 → ⊥) → n ≤ 3 → n ≤ 1 → Some (v, n) ≡ first_octet t
   unfolding octet
-  octet_one h l m =
-      simp (value h, le-leb (length (before 46 (drop at s))) 3 (omega arith), le-ltb 1 (length (before 46 (drop at s))) (omega arith), hl)
+  octet_one h l m = simp (value h, hl, le-leb n 3 l, le-ltb 1 n m)
 
-  pub octet_some : (end - at ≡ 0 → ⊥) → end - at ≤ 3 → 1 < end - at → (get_or s at 0 ≡ 48 → ⊥) → Some (v, end) ≡ octet_at at (drop at s)
+  pub octet_some : (n ≡ 0 → ⊥) → n ≤ 3 → 1 < n → (get_or t 0 0 ≡ 48 → ⊥) → Some (v, n) ≡ first_octet t
   unfolding octet
-  octet_some h l m e =
-      simp (value h, le-leb (length (before 46 (drop at s))) 3 (omega arith), lt-ltb 1 (length (before 46 (drop at s))) (omega arith), before_first 46 s at (omega arith), ne_eqb (get_or s at 0) 48 e, hl)
+  octet_some h l m e = simp (value h, hl, le-leb n 3 l, lt-ltb 1 n m, before_first 46 t (omega arith), ne_eqb (get_or t 0 0) 48 e)
 
 -- the digits so far make v, and the rest of the part stands from i on
-module _ (s : List ℕ) (at i v : ℕ) (hl : at + length (before 46 (drop at s)) ≡ i + length (before 46 (drop i s)))
-    (hd : behind 0 (before 46 (drop at s)) ≡ behind v (before 46 (drop i s))) where
+module _ (t : List ℕ) (i v : ℕ) (hl : length (before 46 t) ≡ i + length (before 46 (drop i t))) (hd : behind 0 (before 46 t) ≡ behind v (before 46 (drop i t))) where
   -- at the part's end
-  module _ (e : before 46 (drop i s) ≡ []) where
-    end_length : at + length (before 46 (drop at s)) ≡ i
+  module _ (e : before 46 (drop i t) ≡ []) where
+    end_length : length (before 46 t) ≡ i
     end_length = omega (arith, ap length e)
 
-    end_value : behind 0 (before 46 (drop at s)) ≡ Some v
+    end_value : behind 0 (before 46 t) ≡ Some v
     unfolding behind
     end_value = hd ∙ ap (behind v) e
 
-  pub dot_length : i < length s → get_or s i 0 ≡ 46 → at + length (before 46 (drop at s)) ≡ i
-  dot_length h b = end_length (before_here 46 s i h b)
+  pub dot_length : i < length t → get_or t i 0 ≡ 46 → length (before 46 t) ≡ i
+  dot_length h b = end_length (before_here 46 t i h b)
 
-  pub dot_value : i < length s → get_or s i 0 ≡ 46 → behind 0 (before 46 (drop at s)) ≡ Some v
-  dot_value h b = end_value (before_here 46 s i h b)
+  pub dot_value : i < length t → get_or t i 0 ≡ 46 → behind 0 (before 46 t) ≡ Some v
+  dot_value h b = end_value (before_here 46 t i h b)
 
-  pub last_length : length s ≤ i → i ≤ length s → at + length (before 46 (drop at s)) ≡ length s
-  last_length h l = omega (arith, end_length (before_end 46 s i h))
+  pub last_length : length t ≤ i → i ≤ length t → length (before 46 t) ≡ length t
+  last_length h l = omega (arith, end_length (before_end 46 t i h))
 
-  pub last_value : length s ≤ i → behind 0 (before 46 (drop at s)) ≡ Some v
-  last_value h = end_value (before_end 46 s i h)
+  pub last_value : length t ≤ i → behind 0 (before 46 t) ≡ Some v
+  last_value h = end_value (before_end 46 t i h)
 
   -- one byte more
-  module _ (h : i < length s) (b : get_or s i 0 ≡ 46 → ⊥) where
-    hd' : behind 0 (before 46 (drop at s)) ≡ cond (is_digit (get_or s i 0)) (behind (v * 10 + (get_or s i 0 - 48)) (before 46 (drop (i + 1) s))) None
+  module _ (h : i < length t) (b : get_or t i 0 ≡ 46 → ⊥) where
+    hd' : behind 0 (before 46 t) ≡ cond (is_digit (get_or t i 0)) (behind (v * 10 + (get_or t i 0 - 48)) (before 46 (drop (i + 1) t))) None
     unfolding behind
-    hd' = hd ∙ ap (behind v) (before_step 46 s i h b)
+    hd' = hd ∙ ap (behind v) (before_step 46 t i h b)
 
-    pub more_length : at + length (before 46 (drop at s)) ≡ i + 1 + length (before 46 (drop (i + 1) s))
-    more_length = omega (arith, ap length (before_step 46 s i h b))
+    pub more_length : length (before 46 t) ≡ i + 1 + length (before 46 (drop (i + 1) t))
+    more_length = omega (arith, ap length (before_step 46 t i h b))
 
-    refused : below 256 (behind 0 (before 46 (drop at s))) ≡ None → None ≡ octet_at at (drop at s)
-    refused e = rw (no_octet (before 46 (drop at s)) (digits_none (before 46 (drop at s)) e))
+    refused : below 256 (behind 0 (before 46 t)) ≡ None → None ≡ first_octet t
+    refused e = rw (no_octet (before 46 t) (digits_none (before 46 t) e))
 
-    pub no_digit : is_digit (get_or s i 0) ≡ false → None ≡ octet_at at (drop at s)
+    pub no_digit : is_digit (get_or t i 0) ≡ false → None ≡ first_octet t
     no_digit l = refused (simp (hd', l))
 
-    module _ (l : is_digit (get_or s i 0) ≡ true) where
-      pub more_value : behind 0 (before 46 (drop at s)) ≡ behind (v * 10 + (get_or s i 0 - 48)) (before 46 (drop (i + 1) s))
+    module _ (l : is_digit (get_or t i 0) ≡ true) where
+      pub more_value : behind 0 (before 46 t) ≡ behind (v * 10 + (get_or t i 0 - 48)) (before 46 (drop (i + 1) t))
       more_value = simp (hd', l)
 
-      pub over : 255 < v * 10 + (get_or s i 0 - 48) → None ≡ octet_at at (drop at s)
-      over g = refused (simp (more_value, too_big 256 (v * 10 + (get_or s i 0 - 48)) (before 46 (drop (i + 1) s)) g))
+      pub over : 255 < v * 10 + (get_or t i 0 - 48) → None ≡ first_octet t
+      over g = refused (simp (more_value, too_big 256 (v * 10 + (get_or t i 0 - 48)) (before 46 (drop (i + 1) t)) g))
 
 -- the octets os are still to come behind k octets that make a
 abbrev pub four_from : ℕ → ℕ → Option (List ℕ) → Option ℕ
 four_from k a (Some os) = cond (eqb (k + length os) 4) (Some (number 256 a os)) None
 four_from k a None = None
 
-pub four_start : (s : List ℕ) → ipv4 s ≡ four_from 0 0 (each octet (parts 46 (drop 0 s)))
+pub four_start : (s : List ℕ) → ipv4 s ≡ four_from 0 0 (each octet (parts 46 s))
 unfolding ipv4
 four_start s = go (each octet (parts 46 s))
   where
@@ -165,44 +160,45 @@ placed_some : (m : Option ℕ) (e v n : ℕ) → placed m e ≡ Some (v, n) → 
 placed_some None e v n h = let z : ◌≡◌ {A = ℕ} 0 1 = cc in absurd (omega arith)
 placed_some (Some w) e v n h = let z = some_pair_parts w v e n h in (ap Some z.0, z.1)
 
--- k octets that make a are read, and the others stand from `at` on; r is the octet there
-module _ (s : List ℕ) (at k a : ℕ) (hi : ipv4 s ≡ four_from k a (each octet (parts 46 (drop at s)))) (r : Option (ℕ × ℕ)) (hr : r ≡ octet_at at (drop at s)) where
+-- k octets that make a are read, and t is to be read for the others; r is the octet at its front
+module _ (s t : List ℕ) (k a : ℕ) (hi : ipv4 s ≡ four_from k a (each octet (parts 46 t))) (r : Option (ℕ × ℕ)) (hr : r ≡ first_octet t) where
   pub stop : r ≡ None → None ≡ ipv4 s
   unfolding each
-  stop e = rw (hi, parts_cons 46 (drop at s), placed_none (octet (before 46 (drop at s))) (at + length (before 46 (drop at s))) (sym hr ∙ e))
+  stop e = rw (hi, parts_cons 46 t, placed_none (octet (before 46 t)) (length (before 46 t)) (sym hr ∙ e))
 
-  module _ (v e : ℕ) (hv : r ≡ Some (v, e)) where
-    here : (octet (before 46 (drop at s)) ≡ Some v) × (at + length (before 46 (drop at s)) ≡ e)
-    here = placed_some (octet (before 46 (drop at s))) (at + length (before 46 (drop at s))) v e (sym hr ∙ hv)
+  module _ (v n : ℕ) (hv : r ≡ Some (v, n)) where
+    here : (octet (before 46 t) ≡ Some v) × (length (before 46 t) ≡ n)
+    here = placed_some (octet (before 46 t)) (length (before 46 t)) v n (sym hr ∙ hv)
+
+    pub inside : n ≤ length t
+    inside = omega (arith, here.1, before_short 46 t)
 
     pub value_small : v < 256
-    value_small = octet_small (before 46 (drop at s)) v here.0
+    value_small = octet_small (before 46 t) v here.0
 
-    last : length s ≤ e → ipv4 s ≡ cond (eqb (k + 1) 4) (Some (a * 256 + v)) None
+    last : length t ≤ n → ipv4 s ≡ cond (eqb (k + 1) 4) (Some (a * 256 + v)) None
     unfolding each number
-    last h = rw (hi, parts_last 46 (drop at s) (simp length-drop (omega (arith, here.1))), here.0)
+    last h = rw (hi, parts_last 46 t (omega (arith, here.1)), here.0)
 
-    pub too_few : length s ≤ e → k < 3 → None ≡ ipv4 s
+    pub too_few : length t ≤ n → k < 3 → None ≡ ipv4 s
     too_few h l = simp (last h, ne_eqb (k + 1) 4 (λ z. omega arith))
 
-    pub whole : length s ≤ e → k ≤ 3 → 3 ≤ k → Some (a * 256 + v) ≡ ipv4 s
+    pub whole : length t ≤ n → k ≤ 3 → 3 ≤ k → Some (a * 256 + v) ≡ ipv4 s
     whole h l m = simp (last h, eq-eqb (k + 1) 4 (omega arith))
 
-    pub next : e < length s → ipv4 s ≡ four_from (k + 1) (a * 256 + v) (each octet (parts 46 (drop (e + 1) s)))
+    pub next : n < length t → ipv4 s ≡ four_from (k + 1) (a * 256 + v) (each octet (parts 46 (drop (n + 1) t)))
     unfolding each number
     next h =
-        let z : at + suc (length (before 46 (drop at s))) ≡ e + 1 = omega (arith, here.1) in
-        hi
-        ∙ rw (parts_more 46 (drop at s) (simp length-drop (omega (arith, here.1))), here.0, drop-drop (suc (length (before 46 (drop at s)))) at s, z)
-        (go (each octet (parts 46 (drop (e + 1) s))))
+        let z : suc (length (before 46 t)) ≡ n + 1 = omega (arith, here.1) in
+        hi ∙ rw (parts_more 46 t (omega (arith, here.1)), here.0, z) (go (each octet (parts 46 (drop (n + 1) t))))
       where
         go : (m : Option (List ℕ)) → four_from k a (prepend (Some v) m) ≡ four_from (k + 1) (a * 256 + v) m
         go (Some os) = let z : k + suc (length os) ≡ k + 1 + length os = omega arith in rw z
         go None = refl
 
-    pub too_many : e < length s → 3 ≤ k → None ≡ ipv4 s
+    pub too_many : n < length t → 3 ≤ k → None ≡ ipv4 s
     unfolding each
-    too_many h l = rw (next h, parts_cons 46 (drop (e + 1) s)) (go (octet (before 46 (drop (e + 1) s))) (each octet (later 46 (drop (e + 1) s))))
+    too_many h l = rw (next h, parts_cons 46 (drop (n + 1) t)) (go (octet (before 46 (drop (n + 1) t))) (each octet (later 46 (drop (n + 1) t))))
       where
         go : (m : Option ℕ) (n : Option (List ℕ)) → None ≡ four_from (k + 1) (a * 256 + v) (prepend m n)
         go (Some o) (Some os) = simp (ne_eqb (k + 1 + suc (length os)) 4 (λ z. omega arith))

@@ -3,7 +3,7 @@ use Rattle.std.specs.Prelude.{Option, Some, None}
 use mathlib.Core.Path.{◌≡◌, refl, sym, ap, ◌∙◌}
 use mathlib.Core.List.{List, [], ◌∷◌}
 use mathlib.Core.Bool.{Bool, true, false, cond}
-use Prim.Native.Nat.{ℕ, zero, suc, ◌+◌, ◌*◌, ◌^◌, ◌≤◌, ◌<◌}
+use Prim.Native.Nat.{ℕ, suc, ◌+◌, ◌*◌, ◌^◌, ◌≤◌, ◌<◌}
 use native.Mathlib.Numerals.{add-one}
 use native.Mathlib.Nat.{add-zero, pow-suc, mul-le-mul_right, lt_of_lt_of_le, pow-le-pow_right}
 use native.Mathlib.Omega.{arith}
@@ -36,15 +36,6 @@ before_short c (b ∷ s) = go (eqb b c) (before_short c s)
     go : (t : Bool) → length (before c s) ≤ length s → length (cond t [] (b ∷ before c s)) ≤ suc (length s)
     go true h = omega arith
     go false h = omega arith
-
-pub before_take : (c : ℕ) (s : List ℕ) → take (length (before c s)) s ≡ before c s
-unfolding before
-before_take c [] = refl
-before_take c (b ∷ s) = go (eqb b c) (before_take c s)
-  where
-    go : (t : Bool) → take (length (before c s)) s ≡ before c s → take (length (cond t [] (b ∷ before c s))) (b ∷ s) ≡ cond t [] (b ∷ before c s)
-    go true h = refl
-    go false h = rw h
 
 -- the parts: the first one, and those behind its c
 pub parts_last : (c : ℕ) (s : List ℕ) → length s ≤ length (before c s) → parts c s ≡ before c s ∷ []
@@ -81,16 +72,14 @@ parts_cons c s = go (leb (length s) (length (before c s))) refl
     go false e = parts_more c s (leb-false (length s) (length (before c s)) e)
 
 -- its first byte
-pub before_first : (c : ℕ) (s : List ℕ) (i : ℕ) → 0 < length (before c (drop i s)) → get_or (before c (drop i s)) 0 0 ≡ get_or s i 0
+pub before_first : (c : ℕ) (s : List ℕ) → 0 < length (before c s) → get_or (before c s) 0 0 ≡ get_or s 0 0
 unfolding before
-before_first c [] zero h = absurd (omega arith)
-before_first c [] (suc i) h = absurd (omega arith)
-before_first c (b ∷ s) zero h = go (eqb b c) h
+before_first c [] h = refl
+before_first c (b ∷ s) h = go (eqb b c) h
   where
     go : (t : Bool) → 0 < length (cond t [] (b ∷ before c s)) → get_or (cond t [] (b ∷ before c s)) 0 0 ≡ b
     go true h = absurd (omega arith)
     go false h = refl
-before_first c (b ∷ s) (suc i) h = before_first c s i h
 
 -- a digit more
 pub number_grows : (k v d i : ℕ) → v < k ^ i → d < k → v * k + d < k ^ suc i

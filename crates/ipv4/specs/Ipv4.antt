@@ -1,5 +1,5 @@
 -- IPv4 addresses in text (01, Text, numbers, addresses): four octets of 1 to 3 digits, at most 255, no leading zero.
-use Rattle.std.specs.Prelude.{ℕ, ◌+◌, List, Bool, cond, not, ◌&&◌, length, get_or, ltb, leb, eqb, Option, Some, None}
+use Rattle.std.specs.Prelude.{ℕ, List, Bool, cond, not, ◌&&◌, length, get_or, ltb, leb, eqb, Option, Some, None}
 use Rattle.decimal.specs.Decimal.{digits, below}
 use Rattle.ipv4.specs.Parts.{parts, before, each, number}
 
@@ -28,6 +28,6 @@ abbrev pub placed : Option ℕ → ℕ → Option (ℕ × ℕ)
 placed (Some v) e = Some (v, e)
 placed None e = None
 
--- the octet at the front of t, up to a '.' or the end, where t stands at the place `at`
-abbrev pub octet_at : ℕ → List ℕ → Option (ℕ × ℕ)
-octet_at at t = placed (octet (before 46 t)) (at + length (before 46 t))
+-- the octet at the front of t, up to a '.' or the end
+abbrev pub first_octet : List ℕ → Option (ℕ × ℕ)
+first_octet t = placed (octet (before 46 t)) (length (before 46 t))

@@ -8,5 +8,5 @@ use Rattle.ipv4.proofs.octet.Given as goal
 abbrev pub invariant-loop-i : goal.invariant-loop-i
 invariant-loop-i l =
     (l.v ≤ 255)
-    × (l.at + length (before 46 (drop l.at l.s)) ≡ l.i + length (before 46 (drop l.i l.s)))
-    × (behind 0 (before 46 (drop l.at l.s)) ≡ behind l.v (before 46 (drop l.i l.s)))
+    × (length (before 46 l.t) ≡ l.i + length (before 46 (drop l.i l.t)))
+    × (behind 0 (before 46 l.t) ≡ behind l.v (before 46 (drop l.i l.t)))
