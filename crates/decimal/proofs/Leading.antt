@@ -1,6 +1,8 @@
 -- Laws of the digits at the front of a text, and from a place on.
 use Rattle.std.specs.Prelude.{Option, Some, None, unwrap_or}
-use Prim.Native.Nat.{ℕ, zero, suc, ◌+◌, ◌-◌, ◌*◌, ◌^◌, ◌≤◌, ◌<◌, max}
+use Rattle.std.specs.Borrow.{Bor}
+use Rattle.std.specs.Slice.{IsGetRangeResult}
+use Prim.Native.Nat.{ℕ, zero, suc, ◌+◌, ◌-◌, ◌*◌, ◌^◌, ◌≤◌, ◌<◌}
 use mathlib.Core.Path.{◌≡◌, refl, sym, ap, ◌∙◌}
 use mathlib.Core.Bool.{Bool, true, false, cond}
 use mathlib.Core.List.{List, [], ◌∷◌, ◌++◌, append-nil}
@@ -9,22 +11,19 @@ use native.Mathlib.Nat.{zero-add, pow-le-pow_right}
 use mir.Syntax.{w32}
 use mir.Val.{Fits}
 use lib.ListN.{length, get_or, take, drop, length-append, length-drop, drop_of_length-le, take-append-drop}
-use lib.Seq.{drop-cons, drop-drop, take-suc, get_or-drop, length-take-le}
+use Rattle.std.proofs.lemmas.List.{take_all}
+use Rattle.std.proofs.Math.Logic.{⊎_elim}
+use lib.Seq.{drop-cons, take-suc, length-take-le}
 use lib.Dec.{leb}
-use borrow.Author.Tests.{le-leb, lt-leb, leb-true, leb-false}
+use borrow.Author.Tests.{le-leb, lt-leb, leb-true}
 use Rattle.decimal.specs.Decimal.{is_digit, behind, leading, or_zero, digits_at}
 use Rattle.decimal.proofs.Laws.{digit_high, behind_cons, behind_append, behind_bound}
 
--- the bytes of s from i up to e
-abbrev pub part : List ℕ → ℕ → ℕ → List ℕ
-part s i e = take (e - i) (drop i s)
-
--- digits from i up to e, at most nine, make v
-pub record Run (s : List ℕ) (i e v : ℕ) : Type 0 where
-  pub from : i ≤ e
-  pub few : e - i ≤ 9
-  pub inside : i < e → e ≤ length s
-  pub value : behind 0 (part s i e) ≡ Some v
+-- e digits at the front, at most nine, make v
+pub record Run (t : List ℕ) (e v : ℕ) : Type 0 where
+  pub few : e ≤ 9
+  pub inside : e ≤ length t
+  pub value : behind 0 (take e t) ≡ Some v
 
 -- the bytes of a number are digits
 pub digit_in : (v n : ℕ) (d : List ℕ) (j : ℕ) → behind v d ≡ Some n → j < length d → is_digit (get_or d j 0) ≡ true
@@ -71,104 +70,95 @@ leading_value v (b ∷ t) = go (is_digit b) refl (leading_value (v * 10 + (b - 4
 
 -- what digits_at tells of a text
 module _ (s : List ℕ) (i : ℕ) (w : Option (ℕ × ℕ)) (q : w ≡ digits_at s i) (v e : ℕ) (f : w ≡ Some (v, e)) where
-  pub digits_run : Run s i e v
+  pub digits_run : Run (drop i s) (e - i) v
   unfolding digits_at
   digits_run = go (leb (length d) 9) refl (sym q ∙ f)
     where
       d : List ℕ
       d = leading (drop i s)
 
-      go : (z : Bool) → leb (length d) 9 ≡ z → cond {A = Option (ℕ × ℕ)} z (Some (or_zero (behind 0 d), i + length d)) None ≡ Some (v, e) → Run s i e v
+      go : (z : Bool) → leb (length d) 9 ≡ z → cond {A = Option (ℕ × ℕ)} z (Some (or_zero (behind 0 d), i + length d)) None ≡ Some (v, e) → Run (drop i s) (e - i) v
       go true h g =
           let x : or_zero (behind 0 d) ≡ v = ap (λ (w : Option (ℕ × ℕ)). (unwrap_or w (0, 0)).0) g in
           let y : i + length d ≡ e = ap (λ (w : Option (ℕ × ℕ)). (unwrap_or w (0, 0)).1) g in
           let n : e - i ≡ length d = omega arith in
           record {
-            from = omega arith;
             few = omega (arith, leb-true (length d) 9 h);
-            inside = λ l. omega (arith, leading_le (drop i s), length-drop i s);
+            inside = omega (arith, leading_le (drop i s));
             value = ap (behind 0) (ap (λ k. take k (drop i s)) n ∙ leading_front (drop i s)) ∙ leading_value 0 (drop i s) ∙ ap Some x;
           }
       go false h g = let z : ◌≡◌ {A = ℕ} 0 1 = cc in absurd (omega arith)
 
 -- a run that is met digit by digit
-pub run_starts : (s : List ℕ) (i : ℕ) → Run s i i 0
+pub run_starts : (t : List ℕ) → Run t 0 0
 unfolding behind
-run_starts s i = let z : i - i ≡ 0 = omega arith in record { from = omega arith; few = omega arith; inside = λ l. absurd (omega arith); value = rw z }
+run_starts t = record { few = omega arith; inside = omega arith; value = refl }
 
-module _ (s : List ℕ) (at i v : ℕ) (r : Run s at i v) where
-  run_size : length (part s at i) ≡ i - at
-  run_size = go (leb i at) refl
-    where
-      go : (z : Bool) → leb i at ≡ z → length (part s at i) ≡ i - at
-      go true h = let z : i - at ≡ 0 = omega (arith, leb-true i at h) in rw z
-      go false h = length-take-le (i - at) (drop at s) (simp length-drop (omega (arith, r.inside (leb-false i at h))))
+module _ (t : List ℕ) (i v : ℕ) (r : Run t i v) where
+  run_size : length (take i t) ≡ i
+  run_size = length-take-le i t r.inside
 
-  pub run_small : (k : ℕ) → i - at ≤ k → v < 10 ^ k
+  pub run_small : (k : ℕ) → i ≤ k → v < 10 ^ k
   run_small k l =
-      let b : v < 10 ^ (i - at) = rw (zero-add, run_size) at (behind_bound 0 0 v (part s at i) (omega arith) r.value) in
-      let m : 10 ^ (i - at) ≤ 10 ^ k = pow-le-pow_right (omega arith) l in
+      let b : v < 10 ^ i = rw (zero-add, run_size) at (behind_bound 0 0 v (take i t) (omega arith) r.value) in
+      let m : 10 ^ i ≤ 10 ^ k = pow-le-pow_right (omega arith) l in
       omega arith
 
-  run_whole : drop at s ≡ part s at i ++ drop i s
-  run_whole =
-      let j : at + (i - at) ≡ i = omega (arith, r.from) in
-      sym (take-append-drop (i - at) (drop at s)) ∙ ap (λ l. part s at i ++ l) (drop-drop (i - at) at s ∙ rw j)
+  run_leading : leading t ≡ take i t ++ leading (drop i t)
+  run_leading = ap leading (sym (take-append-drop i t)) ∙ leading_behind 0 v (take i t) (drop i t) r.value
 
-  run_leading : leading (drop at s) ≡ part s at i ++ leading (drop i s)
-  run_leading = ap leading run_whole ∙ leading_behind 0 v (part s at i) (drop i s) r.value
-
-  stops : leading (drop i s) ≡ [] → Some (v, i) ≡ digits_at s at
-  unfolding digits_at
-  stops e =
-      let d : leading (drop at s) ≡ part s at i = run_leading ∙ rw (e, append-nil) in
-      let j : at + (i - at) ≡ i = omega (arith, r.from) in
-      sym (rw (d, run_size, le-leb (i - at) 9 r.few, r.value, j))
-
-  pub run_end : length s ≤ i → Some (v, i) ≡ digits_at s at
-  unfolding leading
-  run_end h = stops (rw (drop_of_length-le s h))
-
-  -- a loop over the places from `at` on ends behind the run
-  pub run_place : (m : ℕ) → length s ≤ i → m ≡ max at (length s) → m ≡ i
-  run_place m h e = go (leb i at) refl
-    where
-      go : (z : Bool) → leb i at ≡ z → m ≡ i
-      go true f = omega (arith, leb-true i at f, r.from)
-      go false f = omega (arith, r.inside (leb-false i at f))
-
-  module _ (here : i < length s) where
-    next : leading (drop i s) ≡ cond (is_digit (get_or s i 0)) (get_or s i 0 ∷ leading (drop (suc i) s)) []
+  module _ (here : i < length t) where
+    next : leading (drop i t) ≡ cond (is_digit (get_or t i 0)) (get_or t i 0 ∷ leading (drop (suc i) t)) []
     unfolding leading
-    next = rw (drop-cons s i 0 here)
+    next = rw (drop-cons t i 0 here)
 
-    pub run_stops : is_digit (get_or s i 0) ≡ false → Some (v, i) ≡ digits_at s at
-    run_stops h = stops (next ∙ simp h)
+    module _ (digit : is_digit (get_or t i 0) ≡ true) (l : i < 9) where
+      pub run_product : Fits w32 (v * 10)
+      run_product = record { fits = omega (arith, run_small 8 (omega arith), digit_high (get_or t i 0) digit) }
 
-    module _ (digit : is_digit (get_or s i 0) ≡ true) where
-      pub run_many : 9 ≤ i - at → None ≡ digits_at s at
+      pub run_sum : Fits w32 (v * 10 + (get_or t i 0 - 48))
+      run_sum = record { fits = omega (arith, run_small 8 (omega arith), digit_high (get_or t i 0) digit) }
+
+      pub run_more : Run t (i + 1) (v * 10 + (get_or t i 0 - 48))
+      unfolding behind
+      run_more =
+          let k : i + 1 ≡ suc i = omega arith in
+          record {
+            few = omega arith;
+            inside = omega arith;
+            value = ap (behind 0) (ap (λ n. take n t) k ∙ take-suc t i 0 here) ∙ behind_append 0 v (take i t) (get_or t i 0 ∷ []) r.value ∙ rw digit;
+          }
+
+  -- at the front of what stands from a place of a text on
+  module _ (s : List ℕ) (at : ℕ) (q : t ≡ drop at s) where
+    stops : leading (drop i t) ≡ [] → Some (v, at + i) ≡ digits_at s at
+    unfolding digits_at
+    stops e =
+        let d : leading t ≡ take i t = run_leading ∙ rw (e, append-nil) in
+        sym (rw (← q, d, run_size, le-leb i 9 r.few, r.value))
+
+    pub run_end : length t ≤ i → Some (v, at + length t) ≡ digits_at s at
+    unfolding leading
+    run_end h = let n : length t ≡ i = omega (arith, r.inside) in rw n (stops (rw (drop_of_length-le t h)))
+
+    module _ (here : i < length t) where
+      pub run_stops : is_digit (get_or t i 0) ≡ false → Some (v, at + i) ≡ digits_at s at
+      run_stops h = stops (next here ∙ simp h)
+
+      pub run_many : is_digit (get_or t i 0) ≡ true → 9 ≤ i → None ≡ digits_at s at
       unfolding digits_at
-      run_many h =
-          let n : length (leading (drop at s)) ≡ (i - at) + suc (length (leading (drop (suc i) s))) =
-          ap length run_leading ∙ length-append (part s at i) (leading (drop i s)) ∙ rw (run_size, next, digit) in
-          sym (rw (lt-leb (length (leading (drop at s))) 9 (omega arith)))
+      run_many digit h =
+          let n : length (leading t) ≡ i + suc (length (leading (drop (suc i) t))) =
+          ap length run_leading ∙ length-append (take i t) (leading (drop i t)) ∙ rw (run_size, next here, digit) in
+          sym (rw (← q, lt-leb (length (leading t)) 9 (omega arith)))
 
-      module _ (l : i - at < 9) where
-        pub run_product : Fits w32 (v * 10)
-        run_product = record { fits = omega (arith, run_small 8 (omega arith), digit_high (get_or s i 0) digit) }
+-- what stands from a place of a text on: nothing where the place is past its end
+pub rest_of : (s : List ℕ) (at : ℕ) (g : Option (Bor (List ℕ))) (d r : Bor (List ℕ)) → IsGetRangeResult s at (length s) g → d.now ≡ [] → r ≡ unwrap_or g d → r.now ≡ drop at s
+rest_of s at (Some x) d r h e q = ap (λ y. y.now) q ∙ h.0.2 ∙ take_all (length s - at) (drop at s) (simp length-drop (omega arith))
+rest_of s at None d r h e q = ap (λ y. y.now) q ∙ e ∙ sym (drop_of_length-le s past)
+  where
+    past : length s ≤ at
+    past = ⊎_elim (λ (l : length s < at). omega arith) (λ (l : length s < length s). omega arith) h.0
 
-        pub run_sum : Fits w32 (v * 10 + (get_or s i 0 - 48))
-        run_sum = record { fits = omega (arith, run_small 8 (omega arith), digit_high (get_or s i 0) digit) }
-
-        pub run_more : Run s at (i + 1) (v * 10 + (get_or s i 0 - 48))
-        unfolding behind
-        run_more =
-            let k : i + 1 - at ≡ suc (i - at) = omega (arith, r.from) in
-            let j : at + (i - at) ≡ i = omega (arith, r.from) in
-            let t : take (suc (i - at)) (drop at s) ≡ part s at i ++ (get_or s i 0 ∷ []) = take-suc (drop at s) (i - at) 0 (simp length-drop (omega (arith, r.from))) ∙ rw (get_or-drop at s (i - at) 0, j) in
-            record {
-              from = omega (arith, r.from);
-              few = omega arith;
-              inside = λ h. omega arith;
-              value = ap (behind 0) (ap (λ n. take n (drop at s)) k ∙ t) ∙ behind_append 0 v (part s at i) (get_or s i 0 ∷ []) r.value ∙ rw digit;
-            }
+-- what digits_at uses
+pub ruleset run_laws = (run_end, run_stops, run_many, run_product, run_sum, run_more)

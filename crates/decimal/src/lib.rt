@@ -56,24 +56,22 @@ pub fn read_u32(s: &[u8]) -> Option<u32>
 
 // What the digits from `at` on make and the place after them, where they are at most nine: none of
 // these numbers is too large, so a text can be read up to where its digits end.
-#[tactic(auto, using(crate::proofs::Leading::run_many))]
+#[tactic(auto, using(crate::proofs::Leading::run_laws))]
 pub fn digits_at(s: &[u8], at: usize) -> Option<(u32, usize)>
     ensures { result ≡ digits_at s.now at }
 {
+    let rest = s.get(at..).unwrap_or(&[]);
     let mut v = 0;
-    // Stays a loop over places: with `enumerate().skip(at)` the proof knows no place, and it did
-    // not close.
-    for i in at..s.len() {
-        let b = s[i];
+    for (i, b) in rest.iter().enumerate() {
         if !b.is_ascii_digit() {
-            return Some((v, i));
+            return Some((v, at + i));
         }
-        if 9 <= i - at {
+        if 9 <= i {
             return None;
         }
-        v = v * 10 + u32::from(b - b'0');
+        v = v * 10 + u32::from(*b - b'0');
     }
-    Some((v, at.max(s.len())))
+    Some((v, at + rest.len()))
 }
 
 // The highest bit of each byte of a word that is no digit. With the bits of '0' taken out a digit
