@@ -1,8 +1,8 @@
 -- What the digits at the front of a word's bytes make, computed from all of them at once. Assumes nothing.
-use Rattle.std.specs.Prelude.{Some}
+use Rattle.std.specs.Prelude.{Option, Some, None, unwrap_or}
 use Prim.Native.Nat.{ℕ, zero, suc, ◌+◌, ◌-◌, ◌*◌, ◌/◌, ◌%◌, ◌^◌, ◌≤◌, ◌<◌}
 use mathlib.Core.Path.{◌≡◌, refl, sym, ap, ap₂, ◌∙◌}
-use mathlib.Core.Bool.{true}
+use mathlib.Core.Bool.{Bool, true, false, cond}
 use mathlib.Core.List.{List, [], ◌∷◌, ◌++◌, map, map-append, append-nil}
 use native.Mathlib.Omega.{arith}
 use mir.Syntax.{w32, w64}
@@ -11,7 +11,8 @@ use lib.Bits.{bit_and, bit_xor, and_le_r}
 use lib.ListN.{length, get_or, take, drop, replicate, length-append, length-replicate, length-map, take-append-drop}
 use lib.Seq.{take_at}
 use lib.Dec.{eqb}
-use borrow.Author.Tests.{eqb-true}
+use Rattle.std.proofs.lemmas.Option.{none-some}
+use borrow.Author.Tests.{eqb-true, eqb-false, ne_eqb}
 use Rattle.word.specs.Word.{number, bytes, little_endian}
 use Rattle.word.proofs.Laws.{Bytes, length_bytes, bytes_fit, number_back, number_shift, number_zeros, bytes_back}
 use Rattle.word.proofs.Lanes.{same, xor_bytes, xor_number, all_below, all_below_lem, joined}
@@ -174,18 +175,34 @@ module _ (w n : ℕ) (h : w < 2 ^ 64) (e : n ≡ length (leading (little_endian 
   pub lanes_make : (r : ℕ) → r ≡ placed 0 (little_endian (bit_xor w 3472328296227680304 * 2 ^ (64 - 8 * n) % 2 ^ 64)) → r ≡ or_zero (behind 0 (leading (little_endian w)))
   lanes_make r q = q ∙ ap (placed 0) lanes ∙ row_placed (little_endian w) (bytes_fit 7 w h) (length_bytes 7 w)
 
--- `first_digits`' ways out
-pub no_first : (w n : ℕ) → n ≡ length (leading (little_endian w)) → n ≡ 0 → record { count = 0; value = 0 } ≡ first_digits w
-unfolding first_digits behind
-no_first w n e z = go (leading (little_endian w)) (omega arith)
-  where
-    go : (d : List ℕ) → length d ≡ 0 → ◌≡◌ {A = FirstDigits} (record { count = 0; value = 0 }) (record { count = length d; value = or_zero (behind 0 d) })
-    go [] l = refl
-    go (b ∷ d) l = absurd (let f : ⊥ = omega arith in f)
+-- what a word's first digits make
+abbrev pub first_value : ℕ → ℕ
+first_value w = or_zero (behind 0 (leading (little_endian w)))
 
-pub some_first : (w n v : ℕ) → n ≡ length (leading (little_endian w)) → v ≡ or_zero (behind 0 (leading (little_endian w))) → record { count = n; value = v } ≡ first_digits w
+-- `first_digits`' ways out
+module _ (w n : ℕ) (e : n ≡ length (leading (little_endian w))) where
+  pub no_first : n ≡ 0 → None ≡ first_digits w
+  unfolding first_digits
+  no_first z = rw (← e, z) refl
+
+  pub some_first : (v : ℕ) → (n ≡ 0 → ⊥) → v ≡ first_value w → Some (record { count = n; value = v }) ≡ first_digits w
+  unfolding first_digits
+  some_first v some f = rw (← e, ← f, ne_eqb n 0 some) refl
+
+-- what an answer says
+pub first_told : (w : ℕ) (r : FirstDigits) → Some r ≡ first_digits w → (r.count ≡ length (leading (little_endian w))) × (r.count ≡ 0 → ⊥) × (r.value ≡ first_value w)
 unfolding first_digits
-some_first w n v e f = rw (e, f)
+first_told w r f = go (eqb (length d) 0) refl (sym f)
+  where
+    d : List ℕ
+    d = leading (little_endian w)
+
+    go : (z : Bool) → eqb (length d) 0 ≡ z → cond {A = Option FirstDigits} z None (Some (record { count = length d; value = or_zero (behind 0 d) })) ≡ Some r
+        → (r.count ≡ length d) × (r.count ≡ 0 → ⊥) × (r.value ≡ or_zero (behind 0 d))
+    go true h g = absurd (none-some r g)
+    go false h g =
+        let x : length d ≡ r.count = ap (λ o. (unwrap_or o r).count) g in
+        (sym x, λ z. eqb-false (length d) 0 h (x ∙ z), sym (ap (λ o. (unwrap_or o r).value) g))
 
 -- of a text's bytes as a word
 zeros_behind : (k : ℕ) (s : List ℕ) → leading (s ++ replicate k 0) ≡ leading s

@@ -51,9 +51,9 @@ or_zero None = 0
 unfoldable pub digits_at : List ℕ → ℕ → Option (ℕ × ℕ)
 digits_at s i = let d = leading (drop i s) in cond {A = Option (ℕ × ℕ)} (leb (length d) 9) (Some (or_zero (behind 0 d), i + length d)) None
 
--- those of a word's eight bytes: how many, and what they make
-unfoldable pub first_digits : ℕ → FirstDigits
-first_digits w = let d = leading (little_endian w) in record { count = length d; value = or_zero (behind 0 d) }
+-- those of a word's eight bytes: how many, and what they make; none where the first is no digit
+unfoldable pub first_digits : ℕ → Option FirstDigits
+first_digits w = let d = leading (little_endian w) in cond {A = Option FirstDigits} (eqb (length d) 0) None (Some (record { count = length d; value = or_zero (behind 0 d) }))
 
 -- the highest bit for a byte that is no digit
 abbrev pub mark : ℕ → ℕ

@@ -111,24 +111,22 @@ fn digits_value(w: u64, n: usize) -> u32
     joined((w ^ 0x3030_3030_3030_3030) << (64 - 8 * n as u64))
 }
 
-// How many digits are at the front of a word's bytes, and what they make.
-// Stays a count, 0 for none: an Option of a struct would cross the call through memory
-// (docs/PERFORMANCE.md), and this one is on the way of each AS number.
+// How many digits are at the front of a word's bytes, at least one, and what they make.
 #[derive(Clone, Copy)]
 pub struct FirstDigits {
     pub count: usize,
     pub value: u32,
 }
 
-pub fn first_digits(w: u64) -> FirstDigits
+// None where the word begins with no digit.
+#[tactic(auto, using(crate::proofs::FrontValue::no_first, crate::proofs::FrontValue::some_first))]
+pub fn first_digits(w: u64) -> Option<FirstDigits>
     ensures { result ≡ first_digits w }
 {
-    let n = digit_count(w);
-    if n == 0 {
-        return FirstDigits { count: 0, value: 0 };
+    let count = digit_count(w);
+    if count == 0 {
+        return None;
     }
-    FirstDigits {
-        count: n,
-        value: digits_value(w, n),
-    }
+    let value = digits_value(w, count);
+    Some(FirstDigits { count, value })
 }

@@ -23,7 +23,7 @@ use Rattle.decimal.specs.declared.FirstDigits.{FirstDigits}
 use Rattle.decimal.proofs.Laws.{digits_bound, unsigned_digits}
 use Rattle.decimal.proofs.Reading.{start}
 use Rattle.decimal.proofs.Leading.{leading_front, leading_value}
-use Rattle.decimal.proofs.FrontValue.{first_of}
+use Rattle.decimal.proofs.FrontValue.{first_value, first_told, first_of}
 use Rattle.path_text.specs.Path.{numbers}
 use Rattle.path_text.specs.Walk.{asns_from, Takes, lone}
 use Rattle.path_text.proofs.TokensLaws.{parted, digits_token}
@@ -80,8 +80,8 @@ module _ (s : List ℕ) (at w n : ℕ) (bytes : Bytes s) (q : w ≡ number (take
   size : n ≡ length front
   size = f ∙ ap length read
 
-  made : behind 0 front ≡ Some (first_digits w).value
-  unfolding first_digits front
+  made : behind 0 front ≡ Some (first_value w)
+  unfolding front
   made = leading_value 0 (take 8 (drop at s)) ∙ ap Some (sym (ap (λ d. or_zero (behind 0 d)) read))
 
   -- none, and the place is the last: a lone byte that is no digit
@@ -129,20 +129,20 @@ module _ (s : List ℕ) (at w n : ℕ) (bytes : Bytes s) (q : w ≡ number (take
         ∙ ap (λ l. front ++ l) (drop-drop n at s ∙ rw (drop-cons s (at + n) 0 counted_inside, counted_space, k))
 
     module _ (some-count : n ≡ 0 → ⊥) where
-      some_digit : digits front ≡ Some (first_digits w).value
+      some_digit : digits front ≡ Some (first_value w)
       some_digit = start front (λ z. some-count (size ∙ z)) ∙ made
 
-      pub counted_found : Takes s at (first_digits w).value (at + n + 1)
+      pub counted_found : Takes s at (first_value w) (at + n + 1)
       unfolding numbers
       counted_found =
-          let v = (first_digits w).value in
+          let v = first_value w in
           let rest = drop (at + n + 1) s in
           let cut : tokens (drop at s) ≡ front ∷ tokens rest = ap tokens whole ∙ parted front rest ∙ ap (λ x. x ++ tokens rest) (digits_token v front some_digit) in
           let low : 10 ^ length front ≤ 10 ^ 7 = pow-le-pow_right (omega arith) {j = 7} (omega (arith, size)) in
           let reads : read_u32 front ≡ Some v = rw (unsigned_digits v front some_digit, lt-ltb v (2 ^ 32) (omega (arith, digits_bound v front some_digit))) in
           (record { later = omega arith; inside = omega (arith, counted_inside) }, rw (cut, reads))
 
-      pub counted_digits : digits (take n (drop at s)) ≡ Some (first_digits w).value
+      pub counted_digits : digits (take n (drop at s)) ≡ Some (first_value w)
       counted_digits = rw there some_digit
 
       -- their first is the word's lowest byte
@@ -152,16 +152,15 @@ module _ (s : List ℕ) (at w n : ℕ) (bytes : Bytes s) (q : w ≡ number (take
           ∙ sym (byte_at 0 (take 8 (drop at s)) inside) ∙ omega (arith, q)
 
 -- the same with what they make
-module _ (s : List ℕ) (at w : ℕ) (r : FirstDigits) (bytes : Bytes s) (q : w ≡ number (take 8 (drop at s))) (f : r ≡ first_digits w) (few : r.count ≤ 7) where
-  count : r.count ≡ length (leading (little_endian w))
-  unfolding first_digits
-  count = ap (λ x. x.count) f
+module _ (s : List ℕ) (at w : ℕ) (r : FirstDigits) (bytes : Bytes s) (q : w ≡ number (take 8 (drop at s))) (f : Some r ≡ first_digits w) (few : r.count ≤ 7) where
+  told : (r.count ≡ length (leading (little_endian w))) × (r.count ≡ 0 → ⊥) × (r.value ≡ first_value w)
+  told = first_told w r f
 
   pub plain_inside : (w / 2 ^ (8 * r.count) % 256 ≡ 0 → ⊥) → at + r.count < length s
-  plain_inside = some_inside s at w r.count bytes q count few
+  plain_inside = some_inside s at w r.count bytes q told.0 few
 
-  pub plain_found : (r.count ≡ 0 → ⊥) → w / 2 ^ (8 * r.count) % 256 ≡ 32 → Takes s at r.value (at + r.count + 1)
-  plain_found some-count space = rw (ap (λ x. x.value) f) (counted_found s at w r.count bytes q count few space some-count)
+  pub plain_found : w / 2 ^ (8 * r.count) % 256 ≡ 32 → Takes s at r.value (at + r.count + 1)
+  plain_found space = rw told.2 (counted_found s at w r.count bytes q told.0 few space told.1)
 
 -- for is_lone
 pub ruleset lone_laws = (lone_past, lone_many, lone_here)

@@ -67,8 +67,8 @@ fn plain_number(part: &[u8], at: usize) -> Option<(u32, usize)>
     ensures { IsPlain part.now at result }
 {
     let w = word::word_at(part, at);
-    let d = decimal::first_digits(w);
-    if d.count == 0 || 7 < d.count || (w >> (8 * d.count as u64)) % 256 != 32 {
+    let d = decimal::first_digits(w)?;
+    if 7 < d.count || (w >> (8 * d.count as u64)) % 256 != 32 {
         return None;
     }
     Some((d.value, at + d.count + 1))

@@ -9,7 +9,8 @@ use Rattle.output.specs.declared.PutError.{PutError}
 use Rattle.output.specs.declared.PutError.TheVariants.{TooShort}
 use Rattle.word.specs.Word.{number, little_endian, bytes as word_bytes}
 use Rattle.word.proofs.Laws.{Bytes, number_back, byte_at, bytes_fit, take_bytes, drop_bytes, number_bound}
-use Rattle.decimal.specs.Decimal.{leading, first_digits}
+use Rattle.decimal.specs.Decimal.{leading}
+use Rattle.decimal.proofs.FrontValue.{first_value}
 use Rattle.decimal_display.specs.Printed.{decimal}
 use Rattle.decimal_display.proofs.ReadBack.{digits_printed}
 use Rattle.aspath_display.specs.Display.{lead, separated}
@@ -118,13 +119,13 @@ module _ (path : List ℕ) (at last w : ℕ) (bytes : Bytes path) (c : Copied pa
 
     pub copied_more : Copied path (at + n + 1) at
     copied_more =
-        one_more path at last n (first_digits w).value c copied_inside printed (counted_space path at w n bytes q plain.digits plain.few space) (counted_found path at w n bytes q plain.digits plain.few space some)
+        one_more path at last n (first_value w) c copied_inside printed (counted_space path at w n bytes q plain.digits plain.few space) (counted_found path at w n bytes q plain.digits plain.few space some)
       where
         first : get_or (take n (drop at path)) 0 0 ≡ get_or (little_endian w) 0 0
         first = counted_first path at w n bytes q plain.digits plain.few space some ∙ first_byte w
 
-        printed : take n (drop at path) ≡ decimal (first_digits w).value
-        printed = digits_printed (first_digits w).value (take n (drop at path)) (counted_digits path at w n bytes q plain.digits plain.few space some) (λ e. plain.no_zero (sym first ∙ e))
+        printed : take n (drop at path) ≡ decimal (first_value w)
+        printed = digits_printed (first_value w) (take n (drop at path)) (counted_digits path at w n bytes q plain.digits plain.few space some) (λ e. plain.no_zero (sym first ∙ e))
 
 -- what is told of a path that is plain
 module _ (path : List ℕ) (p : Option (ℕ × ℕ)) (told : IsPlain path p) (last end : ℕ) (f : p ≡ Some (last, end)) where
