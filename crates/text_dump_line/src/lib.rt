@@ -169,7 +169,7 @@ impl<'a> Row<'a> {
 
     // The metric is read first, and handed on when the local preference is read.
     // Stays a loop with one call of `number`, as any_route: with two calls in each reading took
-    // 9 % more time (docs/PERFORMANCE.md).
+    // 6 % more time (docs/PERFORMANCE.md).
     #[tactic(auto, using(crate::proofs::LineLaws::entry_laws))]
     fn entry(self, next_hop: IpAddr) -> RouteEntry
         ensures { result ≡ entry_of self.entry.columns next_hop self.entry.text.now }
@@ -210,7 +210,7 @@ impl<'a> Row<'a> {
 
 // By the columns, else by those shifted.
 // Stays a loop with one call, which the compiler joins in: with two calls, inlined or not, it took
-// more time (docs/PERFORMANCE.md: +9 % with those of Row::entry, +12 ns).
+// more time (docs/PERFORMANCE.md: +6 % with those of Row::entry, +12 ns).
 #[tactic(auto, unfolding(crate::specs::Line::any_route))]
 fn any_route(ascii: bool, t: &[u8], c: Columns) -> Option<(PrefixText, RouteEntry)>
     requires { ascii ≡ true → all is_one t.now ≡ true }
