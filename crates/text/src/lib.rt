@@ -54,6 +54,8 @@ fn wide_white(s: &[u8]) -> usize
 
 // How many bytes the white character at the front has; 0 where there is none. Spaces and visible
 // ASCII, which are nearly all, are told first, in the loops themselves.
+// Stays a length, as white_len in the definition: that of no character is 0, and ink_len's contract
+// takes it from the length of the character at the front.
 #[inline(always)]
 #[tactic(auto, using(crate::proofs::WhiteLaws::front_laws))]
 fn white(s: &[u8]) -> usize
@@ -88,6 +90,7 @@ fn last(s: &[u8], k: usize) -> &[u8]
 
 // How many bytes the white character at the end has; 0 where there is none. Every line ends with a
 // line feed, so this is told first too.
+// Stays a length, as white.
 #[inline(always)]
 #[tactic(auto, using(crate::proofs::WhiteLaws::end_laws))]
 fn white_end(s: &[u8]) -> usize
