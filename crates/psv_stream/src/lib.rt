@@ -151,7 +151,7 @@ fn stopped(consumed: usize, written: usize) -> Ran
 fn refuse(why: Refusal, line: u64, out: &mut [u8; LINE]) -> usize
     ensures { Puts (refusal_text (number why) line) out.old out.new result }
 {
-    let mut w = Writer { out, at: 0 };
+    let mut w = Writer::new(out);
     w.bytes(b"refused=");
     decimal_display::write_u64(why.number(), &mut w);
     w.bytes(b"\nline=");
