@@ -2,6 +2,7 @@
 use Rattle.std.specs.Prelude.{ℕ, ◌≤◌, cond, ◌&&◌, List, get_or, T, eqb, leb, Float, Option, Some, None}
 use Rattle.std.specs.Float.{binary64}
 use Rattle.std.specs.Float.Ieee.{fits, of_bits}
+use Rattle.columns.specs.declared.Columns.{Columns}
 use Rattle.network.specs.declared.IpAddr.{IpAddr}
 use Rattle.network.specs.declared.IpAddr.TheVariants.{V4, V6}
 use Rattle.network.specs.declared.NetworkPrefix.{NetworkPrefix}
@@ -37,11 +38,14 @@ remembered_of m kind upper lower n =
     None)
 
 module _ (w : List ℕ) where
+  abbrev pub columns_of : Columns
+  columns_of = record { next_hop = get_or w 0 0; metric = get_or w 1 0; local_pref = get_or w 2 0; weight = get_or w 3 0; path = get_or w 4 0 }
+
   abbrev pub with_remembered : IpAddr → Float → Option Remembered → Option State
   with_remembered peer t (Some m) =
       Some
       (record {
-        columns = record { next_hop = get_or w 0 0; metric = get_or w 1 0; local_pref = get_or w 2 0; weight = get_or w 3 0; path = get_or w 4 0 };
+        columns = columns_of;
         peer_ip = peer;
         peer_asn = record { 0 = get_or w 8 0 };
         timestamp = t;

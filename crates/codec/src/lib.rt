@@ -5,7 +5,7 @@ ghost use Rattle.std.specs.Prelude.{is_some, ◌≡◌};
 ghost use Rattle.std.specs.Float.{binary64};
 ghost use Rattle.std.specs.Float.Ieee.{to_bits, of_bits};
 ghost use Rattle.codec.specs.Words.{address_words, remembered_words, known, asn_number, number_of, origin_number, state_words, cursor_words, element_words};
-ghost use Rattle.codec.specs.Spelling.{address_of, remembered_of, state_but_time, state_of};
+ghost use Rattle.codec.specs.Spelling.{address_of, remembered_of, columns_of, state_but_time, state_of};
 
 use columns::Columns;
 use elem::{Element, Origin};
@@ -240,6 +240,20 @@ fn float_of(bits: u64) -> f64
     seconds::float_of_bits(bits).unwrap_or(0.0 / 0.0)
 }
 
+// The columns of a state, its first five words: any numbers spell some.
+fn columns_of(w: &[u64; 16]) -> Columns
+    ensures { result ≡ columns_of w.now }
+{
+    let [next_hop, metric, local_pref, weight, path, ..] = *w;
+    Columns {
+        next_hop: next_hop as usize,
+        metric: metric as usize,
+        local_pref: local_pref as usize,
+        weight: weight as usize,
+        path: path as usize,
+    }
+}
+
 // The state that the words spell with any bits as its timestamp; None where they spell none. It is
 // for next, which refuses what is no timestamp itself.
 #[tactic(auto, using(crate::proofs::Reading::no_peer, crate::proofs::Reading::no_asn, crate::proofs::Reading::no_memory, crate::proofs::Reading::state_told))]
@@ -247,11 +261,7 @@ pub fn state_but_time(w: &[u64; 16]) -> Option<State>
     ensures { result ≡ state_but_time w.now }
 {
     let [
-        next_hop,
-        metric,
-        local_pref,
-        weight,
-        path,
+        ..,
         peer_kind,
         peer_upper,
         peer_lower,
@@ -278,15 +288,8 @@ pub fn state_but_time(w: &[u64; 16]) -> Option<State>
         lower: prefix_lower,
     };
     let remembered = remembered_of(RememberedWords { kind, addr, len })?;
-    let columns = Columns {
-        next_hop: next_hop as usize,
-        metric: metric as usize,
-        local_pref: local_pref as usize,
-        weight: weight as usize,
-        path: path as usize,
-    };
     Some(State {
-        columns,
+        columns: columns_of(w),
         peer_ip,
         peer_asn,
         timestamp,
