@@ -2,7 +2,7 @@
 use Rattle.std.specs.Prelude.{Option, Some, None}
 use Rattle.std.specs.Fn.{Mut}
 use denote.Ref.{Bor, MutBor}
-use Rattle.std.proofs.Common.{◌≡◌, ℕ, ◌+◌, ◌-◌, ◌<◌, ◌≤◌, Bool, true, false, List, ◌++◌, length, take, drop, arith, refl, sym, ap, inl, inr, ◌∙◌, take-append-drop, length-take, length-drop, length-append}
+use Rattle.std.proofs.Common.{◌≡◌, ℕ, ◌+◌, ◌-◌, ◌<◌, ◌≤◌, Bool, true, false, List, ◌++◌, length, take, drop, arith, refl, sym, subst, ap, inl, inr, ◌∙◌, take-append-drop, length-take, length-drop, length-append}
 use Rattle.psv_stream.specs.declared.Phase.{Phase}
 use Rattle.psv_stream.specs.declared.Phase.TheVariants.{Stopped}
 use Rattle.psv_stream.specs.declared.Ran.{Ran}
@@ -157,67 +157,57 @@ module _ {F P : Type 0} (g : Mut F (P × (Bor (List ℕ) × (MutBor (List ℕ) �
     abbrev Last : Option (Step P) → Type 0
     Last a = NextStep g e.last r.place (take (length s - r.consumed) (drop r.consumed s)) (take (length e.o - e.w) (drop e.w e.o)) e.next e.part a
 
+    -- the call after the lines taken, and what is written, by why they end
+    abbrev LastBy : End → Type 0
+    LastBy end.Full = Last None × (r.written ≡ e.w)
+    LastBy end.Left = Last (Some step.Leaves) × (r.written ≡ e.w)
+    LastBy end.Starved = Last (Some step.Starved) × (r.written ≡ e.w)
+    LastBy end.Stopped = (n : ℕ) × Last (Some (step.Stops n)) × (r.written ≡ e.w + n)
+
+    last_by : (x : End) → r.end ≡ x → LastBy x
+    last_by x h = subst LastBy h (go e.answer e.by e.ends)
+      where
+        go : (a : Option (Step P)) → Last a → EndsBy a r.end e.v → LastBy r.end
+        go None k z = subst LastBy (sym z.0) (k, omega (arith, e.written, z.1))
+        go (Some step.Leaves) k z = subst LastBy (sym z.0) (k, omega (arith, e.written, z.1))
+        go (Some step.Starved) k z = subst LastBy (sym z.0) (k, omega (arith, e.written, z.1))
+        go (Some (step.Stops n)) k z = subst LastBy (sym z.0) (n, k, omega (arith, e.written, z.1))
+        go (Some (step.Took d n q)) k z = absurd z
+
     -- in the head
     pub head_full : r.end ≡ end.Full → Heads (π p₀) s ended out₀ (record { phase = π r.place; consumed = r.consumed; written = r.written; starved = false }) new
-    head_full f = go e.answer e.by e.ends
-      where
-        go : (a : Option (Step P)) → Last a → EndsBy a r.end e.v → Heads (π p₀) s ended out₀ (record { phase = π r.place; consumed = r.consumed; written = r.written; starved = false }) new
-        go None k z =
-            let w_is : r.written ≡ e.w = omega (arith, e.written, z.1) in
-            rw (e.output, w_is, same_out (π p₀) s ended out₀ (π r.place) r.consumed e.w e.o so_far.0 e.part k)
-            (record { came = so_far.0; wants_input = λ h. absurd (false≢true h); wants_room = λ h i. little_left (π p₀) s ended out₀ (π r.place) r.consumed e.w e.o so_far.0 e.part k })
-        go (Some step.Starved) k z = let y : end.Full ≡ end.Starved = sym f ∙ z.0 in cc
-        go (Some step.Leaves) k z = let y : end.Full ≡ end.Left = sym f ∙ z.0 in cc
-        go (Some (step.Stops n)) k z = let y : end.Full ≡ end.Stopped = sym f ∙ z.0 in cc
-        go (Some (step.Took d n q)) k z = absurd z
+    head_full f =
+        let l : LastBy end.Full = last_by end.Full f in
+        rw (e.output, l.1, same_out (π p₀) s ended out₀ (π r.place) r.consumed e.w e.o so_far.0 e.part l.0)
+        (record { came = so_far.0; wants_input = λ h. absurd (false≢true h); wants_room = λ h i. little_left (π p₀) s ended out₀ (π r.place) r.consumed e.w e.o so_far.0 e.part l.0 })
 
     pub head_starves : r.end ≡ end.Starved → Heads (π p₀) s ended out₀ (record { phase = π r.place; consumed = r.consumed; written = r.written; starved = true }) new
-    head_starves f = go e.answer e.by e.ends
-      where
-        go : (a : Option (Step P)) → Last a → EndsBy a r.end e.v → Heads (π p₀) s ended out₀ (record { phase = π r.place; consumed = r.consumed; written = r.written; starved = true }) new
-        go (Some step.Starved) k z =
-            let w_is : r.written ≡ e.w = omega (arith, e.written, z.1) in
-            let does_so = starves_does e.last e.next r.place (take (length s - r.consumed) (drop r.consumed s)) (take (length e.o - e.w) (drop e.w e.o)) e.part so_far.1 k in
-            rw (e.output, w_is)
-            (record {
-              came = starves_came (π p₀) s ended out₀ (π r.place) r.consumed e.w e.o so_far.0 e.part step.Starved does_so refl;
-              wants_input = λ h. starved_came (π p₀) s ended out₀ (π r.place) r.consumed e.w e.o so_far.0 e.part step.Starved does_so refl;
-              wants_room = λ h. absurd (false≢true (sym h));
-            })
-        go None k z = let y : end.Starved ≡ end.Full = sym f ∙ z.0 in cc
-        go (Some step.Leaves) k z = let y : end.Starved ≡ end.Left = sym f ∙ z.0 in cc
-        go (Some (step.Stops n)) k z = let y : end.Starved ≡ end.Stopped = sym f ∙ z.0 in cc
-        go (Some (step.Took d n q)) k z = absurd z
+    head_starves f =
+        let l : LastBy end.Starved = last_by end.Starved f in
+        let does_so = starves_does e.last e.next r.place (take (length s - r.consumed) (drop r.consumed s)) (take (length e.o - e.w) (drop e.w e.o)) e.part so_far.1 l.0 in
+        rw (e.output, l.1)
+        (record {
+          came = starves_came (π p₀) s ended out₀ (π r.place) r.consumed e.w e.o so_far.0 e.part step.Starved does_so refl;
+          wants_input = λ h. starved_came (π p₀) s ended out₀ (π r.place) r.consumed e.w e.o so_far.0 e.part step.Starved does_so refl;
+          wants_room = λ h. absurd (false≢true (sym h));
+        })
 
     stopping_came : r.end ≡ end.Stopped → Came (π p₀) s ended out₀ Stopped r.consumed r.written new
-    stopping_came f = go e.answer e.by e.ends
-      where
-        go : (a : Option (Step P)) → Last a → EndsBy a r.end e.v → Came (π p₀) s ended out₀ Stopped r.consumed r.written new
-        go (Some (step.Stops n)) k z =
-            let does_so = stops_does e.last e.next r.place (take (length s - r.consumed) (drop r.consumed s)) (take (length e.o - e.w) (drop e.w e.o)) e.part so_far.1 n k in
-            rw (e.output, e.written, z.1)
-            (stops_came (π p₀) s ended out₀ (π r.place) r.consumed e.w e.o so_far.0 e.part (step.Stops n) does_so n refl k.3)
-        go None k z = let y : end.Stopped ≡ end.Full = sym f ∙ z.0 in cc
-        go (Some step.Starved) k z = let y : end.Stopped ≡ end.Starved = sym f ∙ z.0 in cc
-        go (Some step.Leaves) k z = let y : end.Stopped ≡ end.Left = sym f ∙ z.0 in cc
-        go (Some (step.Took d n q)) k z = absurd z
+    stopping_came f =
+        let l : LastBy end.Stopped = last_by end.Stopped f in
+        let does_so = stops_does e.last e.next r.place (take (length s - r.consumed) (drop r.consumed s)) (take (length e.o - e.w) (drop e.w e.o)) e.part so_far.1 l.0 l.1 in
+        rw (e.output, l.2)
+        (stops_came (π p₀) s ended out₀ (π r.place) r.consumed e.w e.o so_far.0 e.part (step.Stops l.0) does_so l.0 refl l.1.3)
 
     pub head_stops : r.end ≡ end.Stopped → (t : Ran) → t ≡ record { phase = Stopped; consumed = r.consumed; written = r.written; starved = false } → Heads (π p₀) s ended out₀ t new
     head_stops f t h = rw h (record { came = stopping_came f; wants_input = λ i. absurd (false≢true i); wants_room = λ i j. absurd (false≢true j) })
 
     pub head_left : r.end ≡ end.Left → Heads (π p₀) s ended out₀ (record { phase = π r.place; consumed = r.consumed; written = r.written; starved = false }) new
-    head_left f = go e.answer e.by e.ends
-      where
-        go : (a : Option (Step P)) → Last a → EndsBy a r.end e.v → Heads (π p₀) s ended out₀ (record { phase = π r.place; consumed = r.consumed; written = r.written; starved = false }) new
-        go (Some step.Leaves) k z =
-            let w_is : r.written ≡ e.w = omega (arith, e.written, z.1) in
-            let left_so = leaves_does e.last e.next r.place (take (length s - r.consumed) (drop r.consumed s)) (take (length e.o - e.w) (drop e.w e.o)) e.part so_far.1 k in
-            rw (e.output, w_is, left_output (π p₀) s ended out₀ (π r.place) r.consumed e.w e.o so_far.0 e.part left_so.0)
-            (record { came = so_far.0; wants_input = λ h. absurd (false≢true h); wants_room = λ h i. absurd (false≢true (sym left_so.1 ∙ i)) })
-        go None k z = let y : end.Left ≡ end.Full = sym f ∙ z.0 in cc
-        go (Some step.Starved) k z = let y : end.Left ≡ end.Starved = sym f ∙ z.0 in cc
-        go (Some (step.Stops n)) k z = let y : end.Left ≡ end.Stopped = sym f ∙ z.0 in cc
-        go (Some (step.Took d n q)) k z = absurd z
+    head_left f =
+        let l : LastBy end.Left = last_by end.Left f in
+        let left_so = leaves_does e.last e.next r.place (take (length s - r.consumed) (drop r.consumed s)) (take (length e.o - e.w) (drop e.w e.o)) e.part so_far.1 l.0 in
+        rw (e.output, l.1, left_output (π p₀) s ended out₀ (π r.place) r.consumed e.w e.o so_far.0 e.part left_so.0)
+        (record { came = so_far.0; wants_input = λ h. absurd (false≢true h); wants_room = λ h i. absurd (false≢true (sym left_so.1 ∙ i)) })
 
     pub head_ends : HeadEnds (π p₀) s ended out₀ (π r.place) r new
     head_ends = (head_full, head_left, head_starves, head_stops)
@@ -228,17 +218,10 @@ module _ {F P : Type 0} (g : Mut F (P × (Bor (List ℕ) × (MutBor (List ℕ) �
     body_last b h i j = runs (π p₀) s ended out₀ (π r.place) r.consumed r.written new h b i (λ z. inr (j z))
 
     pub body_full : r.end ≡ end.Full → (t : Ran) → t ≡ record { phase = π r.place; consumed = r.consumed; written = r.written; starved = false } → Runs (π p₀) s ended out₀ t new
-    body_full f t h = rw h (go e.answer e.by e.ends)
-      where
-        go : (a : Option (Step P)) → Last a → EndsBy a r.end e.v → Runs (π p₀) s ended out₀ (record { phase = π r.place; consumed = r.consumed; written = r.written; starved = false }) new
-        go None k z =
-            let w_is : r.written ≡ e.w = omega (arith, e.written, z.1) in
-            let same : new ≡ e.o = e.output ∙ same_out (π p₀) s ended out₀ (π r.place) r.consumed e.w e.o so_far.0 e.part k in
-            body_last false (rw (same, w_is) so_far.0) (λ i. absurd (false≢true i)) (λ i. rw w_is (little_left (π p₀) s ended out₀ (π r.place) r.consumed e.w e.o so_far.0 e.part k))
-        go (Some step.Starved) k z = let y : end.Full ≡ end.Starved = sym f ∙ z.0 in cc
-        go (Some step.Leaves) k z = let y : end.Full ≡ end.Left = sym f ∙ z.0 in cc
-        go (Some (step.Stops n)) k z = let y : end.Full ≡ end.Stopped = sym f ∙ z.0 in cc
-        go (Some (step.Took d n q)) k z = absurd z
+    body_full f t h =
+        let l : LastBy end.Full = last_by end.Full f in
+        let same : new ≡ e.o = e.output ∙ same_out (π p₀) s ended out₀ (π r.place) r.consumed e.w e.o so_far.0 e.part l.0 in
+        rw h (body_last false (rw (same, l.1) so_far.0) (λ i. absurd (false≢true i)) (λ i. rw l.1 (little_left (π p₀) s ended out₀ (π r.place) r.consumed e.w e.o so_far.0 e.part l.0)))
 
     pub body_starves : r.end ≡ end.Starved → (t : Ran) → t ≡ record { phase = π r.place; consumed = r.consumed; written = r.written; starved = true } → Runs (π p₀) s ended out₀ t new
     body_starves f t h =
@@ -249,14 +232,9 @@ module _ {F P : Type 0} (g : Mut F (P × (Bor (List ℕ) × (MutBor (List ℕ) �
     body_stops f t h = rw h (runs (π p₀) s ended out₀ Stopped r.consumed r.written new (stopping_came f) false (λ i. absurd (false≢true i)) (λ i. inl refl))
 
     pub never_left : ((f f' : F) (p : P) (t o o' : List ℕ) → I f p → StepsAt g f p t o step.Leaves f' o' → ⊥) → r.end ≡ end.Left → ⊥
-    never_left never f = go e.answer e.by e.ends
-      where
-        go : (a : Option (Step P)) → Last a → EndsBy a r.end e.v → ⊥
-        go (Some step.Leaves) k z = never e.last e.next r.place (take (length s - r.consumed) (drop r.consumed s)) (take 65537 (take (length e.o - e.w) (drop e.w e.o))) k.0 so_far.1 k.1
-        go None k z = let y : end.Left ≡ end.Full = sym f ∙ z.0 in cc
-        go (Some step.Starved) k z = let y : end.Left ≡ end.Starved = sym f ∙ z.0 in cc
-        go (Some (step.Stops n)) k z = let y : end.Left ≡ end.Stopped = sym f ∙ z.0 in cc
-        go (Some (step.Took d n q)) k z = absurd z
+    never_left never f =
+        let k = (last_by end.Left f).0 in
+        never e.last e.next r.place (take (length s - r.consumed) (drop r.consumed s)) (take 65537 (take (length e.o - e.w) (drop e.w e.o))) k.0 so_far.1 k.1
 
     pub body_ends : ((f f' : F) (p : P) (t o o' : List ℕ) → I f p → StepsAt g f p t o step.Leaves f' o' → ⊥) → BodyEnds (π p₀) s ended out₀ (π r.place) r new
     body_ends never = (body_full, never_left never, body_starves, body_stops)
