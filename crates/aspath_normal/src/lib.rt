@@ -54,7 +54,7 @@ fn is_sequence(kind: u8) -> bool
 
 // A segment without its numbers.
 // Stays a kind as its byte: the lists hold bytes, so a SegmentKind would be made of one and put
-// back as one, and with no SegmentKind for each byte the scan could fail.
+// back as one, and not every byte has a SegmentKind, so the scan could fail.
 #[derive(Clone, Copy)]
 struct Entry {
     kind: u8,

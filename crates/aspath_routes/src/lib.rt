@@ -67,7 +67,8 @@ fn write_numbers(numbers: &[u32], out: &mut [u32]) -> usize
 }
 
 // The numbers of a path in order; with `dedup`, of equal neighbours in a segment the first.
-// Stays a bool: to_u32_vec_opt is asked for it by one, and only `after` tests it.
+// Stays a bool: the public to_u32_vec_opt takes one, and only `after` tests it, so that a closure
+// or a type for each way would stand for one `if`.
 #[derive(Clone, Copy)]
 struct Numbers<'a> {
     dedup: bool,

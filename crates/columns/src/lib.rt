@@ -45,7 +45,8 @@ fn last_place(line: &[u8], name: &[u8]) -> Option<usize>
 {
     let mut found = None;
     let mut at = 0;
-    // Stays a while let: an iterator of words would be made for this loop alone.
+    // Stays a while let: an iterator of words would be made for this loop alone, since 01 names the
+    // form of the other walk over words, words_begin.
     while let Some((start, end)) = scan::next_word(line, at) {
         if words_begin(line, start, name) {
             found = Some(start);

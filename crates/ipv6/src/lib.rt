@@ -91,7 +91,8 @@ fn gap(s: &[u8]) -> Option<usize>
 }
 
 // The last part of a side: a group, or where that is allowed an IPv4 address.
-// Stays a bool, handed on by `side`: it is tested here alone.
+// Stays a bool, handed on by `side`: it is tested here alone, so that a closure or a type for each
+// way would stand for one `if`.
 #[tactic(auto, using(crate::proofs::Sides::part_group, crate::proofs::Sides::part_bare, crate::proofs::Sides::part_none, crate::proofs::Sides::part_crowded, crate::proofs::Sides::part_dotted))]
 fn last_part(t: &[u8], dotted: bool, r: Groups) -> Option<Groups>
     ensures { result ≡ with_groups r (last_part dotted (group_of t.now) (ipv4 t.now)) }
@@ -114,7 +115,7 @@ fn side(s: &[u8], dotted: bool, start: Groups) -> Option<Groups>
     if s.is_empty() {
         return Some(start);
     }
-    // A part is read when the next one is there: the last part is read otherwise.
+    // A part is read once the next one is there, since the last may be an IPv4 address.
     let mut parts = s.split(|b| *b == b':');
     let mut last = parts.next()?;
     let mut r = start;

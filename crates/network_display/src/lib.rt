@@ -9,8 +9,8 @@ ghost use Rattle.network_display.specs.Text.{address_text, prefix_text};
 use network::{IpAddr, NetworkPrefix};
 use output::{PutError, Writer};
 
-// Stays writers and no Display: that could stand in network alone, below all that prints, and it
-// writes a str, so that each text would have to be proved UTF-8 besides. The calls put bytes.
+// Stays writers and no Display: the calls put bytes into lent lists, and a Display of a type around
+// the address would say by write! what the writers say, and be a second form of each text.
 #[tactic(auto, unfolding(crate::specs::Text::address_text))]
 #[inline(always)]
 pub fn write_address(a: IpAddr, w: &mut Writer)

@@ -74,7 +74,8 @@ fn copy_first(text: &[u8], out: &mut [u8]) -> usize
 }
 
 // All of the text at the list's front, or a refusal where the list is too short.
-// Stays without a closure that writes the text: a public function asks nothing of its callers.
+// Stays without a closure that writes the text: a public function asks nothing of its callers, and
+// one that takes a closure asks that it may be called.
 #[tactic(auto, unfolding(crate::specs::Output::answer, crate::specs::Output::front))]
 pub fn put(text: &[u8], out: &mut [u8]) -> Result<usize, PutError>
     ensures { (result ≡ answer text.now out.old) × (out.new ≡ front text.now out.old) }

@@ -83,6 +83,8 @@ fn is_lone(part: &[u8], at: usize) -> bool
 }
 
 // The next token's number, if it is one, with the place after the token; none at the path's end.
+// Not inlined: it is seldom called, and would take registers from the loop over plain numbers.
+#[inline(never)]
 #[tactic(auto, using(crate::proofs::PathLaws::next_asn_laws))]
 fn next_asn(part: &[u8], at: usize) -> Option<(Option<u32>, usize)>
     ensures { Finds part.now at result }

@@ -30,7 +30,7 @@ struct Cursor {
     // How many lines of the listing have come.
     number: u64,
     // The length of the cached start (Buffers), 0 while none is cached.
-    // Stays a length: a text that is not printed yet is empty, and an Option would say so twice, by
+    // Stays a length: a start that is not cached has no bytes, and an Option would say so twice, by
     // None and by Some(0). The same holds of front_len.
     start_len: usize,
     // What the reading state remembers, packed.
