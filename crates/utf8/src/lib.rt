@@ -66,7 +66,8 @@ impl ByteTest for Ascii {
 
 // Is it ASCII? With 64 bytes at a time. Of the last 64 some or all may have been seen already: that
 // is quicker than a loop over the rest.
-// Stays: the library's is_ascii takes twice the time on lines of 70 to 100 bytes (measured).
+// Stays: the library's is_ascii takes 1.6 times as long on lines of 70 to 100 bytes, some 3 % of all
+// reading (docs/PERFORMANCE.md).
 #[tactic(auto, using(crate::proofs::ReadableLaws::ascii_laws))]
 pub fn is_ascii(s: &[u8]) -> bool
     ensures { result ≡ all is_one s.now }
