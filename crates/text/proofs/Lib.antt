@@ -1,3 +1,4 @@
+pub mod LengthLaws
 pub mod ListLaws
 pub mod WhiteLaws
 pub mod PlaceLaws

@@ -1,6 +1,7 @@
 -- Laws of white space at the places where the loops stand: from the place i on, and in front of the
 -- place n.
-use mathlib.Core.Path.{◌≡◌, sym, ap, ◌∙◌}
+use Rattle.std.specs.Prelude.{Some, None}
+use mathlib.Core.Path.{◌≡◌, refl, sym, ap, ◌∙◌}
 use mathlib.Core.List.{List, reverse}
 use Prim.Native.Nat.{ℕ, ◌+◌, ◌-◌, ◌^◌, ◌≤◌, ◌<◌}
 use native.Mathlib.Omega.{arith}
@@ -10,7 +11,8 @@ use lib.ListN.{length, take, drop, length-drop}
 use lib.Seq.{take_all, drop-drop, take-take, take-length, length-take-le}
 use Rattle.utf8.specs.Utf8.{piece_len, chars}
 use Rattle.utf8.proofs.CharLaws.{piece_le}
-use Rattle.text.specs.White.{trim_start, trim_end, after_token, white_len}
+use Rattle.text.specs.White.{trim_start, trim_end, after_token, white_len, unless_zero}
+use Rattle.text.proofs.LengthLaws.{none_zero, some_more}
 use Rattle.text.proofs.WhiteLaws.{white_within, start_stop, start_more, white_end_within, end_stop, end_more, token_none, ink_stop, ink_more}
 
 -- the text from the place i on
@@ -24,9 +26,15 @@ module _ (s : List ℕ) (i : ℕ) where
   some_left : i < length s → 0 < length (drop i s)
   some_left h = simp length-drop (omega arith)
 
-  module _ (k : ℕ) (f : k ≡ white_len (chars (take (length s - i) (drop i s)))) where
+  white_rest : white_len (chars rest) ≡ white_len (chars (drop i s))
+  white_rest = ap (λ t. white_len (chars t)) rest_is
+
+  module _ (k : ℕ) (f : Some k ≡ unless_zero (white_len (chars (take (length s - i) (drop i s))))) where
     white_is : k ≡ white_len (chars (drop i s))
-    white_is = f ∙ ap (λ t. white_len (chars t)) rest_is
+    white_is = (some_more k (white_len (chars rest)) f).0 ∙ white_rest
+
+    pub white_some : 0 < k
+    white_some = (some_more k (white_len (chars rest)) f).1
 
     pub white_inside : i ≤ length s → i + k ≤ length s
     white_inside h = omega (arith, white_within (drop i s) k white_is, length-drop i s)
@@ -36,18 +44,11 @@ module _ (s : List ℕ) (i : ℕ) where
 
 -- trim_start
 module _ (s : List ℕ) (i : ℕ) (e : trim_start s ≡ trim_start (drop i s)) where
-  kept : trim_start (drop i s) ≡ drop i s → take (length s - i) (drop i s) ≡ trim_start s
-  kept f = rest_is s i ∙ sym (e ∙ f)
+  pub white_kept : None ≡ unless_zero (white_len (chars (take (length s - i) (drop i s)))) → take (length s - i) (drop i s) ≡ trim_start s
+  white_kept f = rest_is s i ∙ sym (e ∙ start_stop (drop i s) 0 (sym (none_zero (white_len (chars (rest s i))) f) ∙ white_rest s i) refl)
 
-  passed : (k : ℕ) → k ≡ white_len (chars (drop i s)) → (k ≡ 0 → ⊥) → trim_start s ≡ trim_start (drop (i + k) s)
-  passed k f n = e ∙ start_more (drop i s) k f n ∙ ap trim_start (drop-drop k i s)
-
-  module _ (k : ℕ) (f : k ≡ white_len (chars (take (length s - i) (drop i s)))) where
-    pub white_kept : k ≡ 0 → take (length s - i) (drop i s) ≡ trim_start s
-    white_kept z = kept (start_stop (drop i s) k (white_is s i k f) z)
-
-    pub white_passed : (k ≡ 0 → ⊥) → trim_start s ≡ trim_start (drop (i + k) s)
-    white_passed n = passed k (white_is s i k f) n
+  pub white_passed : (k : ℕ) → Some k ≡ unless_zero (white_len (chars (take (length s - i) (drop i s)))) → trim_start s ≡ trim_start (drop (i + k) s)
+  white_passed k f = e ∙ start_more (drop i s) k (white_is s i k f) (λ z. omega (arith, white_some s i k f)) ∙ ap trim_start (drop-drop k i s)
 
 -- token_end
 module _ (s : List ℕ) (at i : ℕ) (e : after_token (drop at s) ≡ after_token (drop i s)) where
@@ -84,27 +85,33 @@ all_in_front s = ap trim_end (sym (take-length s))
 pub less_in_front : (s : List ℕ) (n k : ℕ) → n ≤ length s → n - k ≤ length s
 less_in_front s n k h = omega arith
 
-module _ (s : List ℕ) (n k : ℕ) (h : n ≤ length s) (f : k ≡ white_len (reverse (chars (take n s)))) where
+module _ (s : List ℕ) (n k : ℕ) (h : n ≤ length s) (f : Some k ≡ unless_zero (white_len (reverse (chars (take n s))))) where
+  white_end_is : (k ≡ white_len (reverse (chars (take n s)))) × (0 < k)
+  white_end_is = some_more k (white_len (reverse (chars (take n s)))) f
+
+  pub white_end_some : 0 < k
+  white_end_some = white_end_is.1
+
   pub white_end_inside : k ≤ n
-  white_end_inside = omega (arith, white_end_within (take n s) k f, length-take-le n s h)
+  white_end_inside = omega (arith, white_end_within (take n s) k white_end_is.0, length-take-le n s h)
 
 -- trim_end
 module _ (s : List ℕ) (n : ℕ) (h : n ≤ length s) (e : trim_end s ≡ trim_end (take n s)) where
   size : length (take n s) ≡ n
   size = length-take-le n s h
 
-  pub white_end_kept : (k : ℕ) → k ≡ white_len (reverse (chars (take n s))) → k ≡ 0 → take n s ≡ trim_end s
-  white_end_kept k f z = sym (e ∙ end_stop (take n s) k f z)
+  pub white_end_kept : None ≡ unless_zero (white_len (reverse (chars (take n s)))) → take n s ≡ trim_end s
+  white_end_kept f = sym (e ∙ end_stop (take n s) 0 (sym (none_zero (white_len (reverse (chars (take n s)))) f)) refl)
 
-  pub white_end_passed : (k : ℕ) → k ≡ white_len (reverse (chars (take n s))) → (k ≡ 0 → ⊥) → trim_end s ≡ trim_end (take (n - k) s)
-  white_end_passed k f z =
-      e ∙ end_more (take n s) k f z
+  pub white_end_passed : (k : ℕ) → Some k ≡ unless_zero (white_len (reverse (chars (take n s)))) → trim_end s ≡ trim_end (take (n - k) s)
+  white_end_passed k f =
+      e ∙ end_more (take n s) k (white_end_is s n k h f).0 (λ z. omega (arith, white_end_some s n k h f))
       ∙ ap (λ m. trim_end (take (m - k) (take n s))) size
       ∙ ap trim_end (take-take (n - k) n s (omega arith))
 
 -- what the loops use
-pub ruleset start_laws = (white_inside, white_fits, white_kept, white_passed)
+pub ruleset start_laws = (white_some, white_inside, white_fits, white_kept, white_passed)
 
 pub ruleset token_laws = (white_ends, ink_on, ink_inside, ink_fits, token_ended)
 
-pub ruleset end_laws = (all_in_front, less_in_front, white_end_inside, white_end_kept, white_end_passed)
+pub ruleset end_laws = (all_in_front, less_in_front, white_end_some, white_end_inside, white_end_kept, white_end_passed)

@@ -1,4 +1,6 @@
 -- Laws of white space, as the functions meet it.
+use Rattle.std.specs.Prelude.{Option, Some, None}
+use Rattle.std.specs.Option.{option_eq}
 use mathlib.Core.Path.{◌≡◌, refl, sym, ap, ◌∙◌}
 use mathlib.Core.List.{List, [], ◌∷◌, ◌++◌, append-nil, flatten, reverse, reverse-cons, reverse-append, reverse-reverse}
 use mathlib.Core.Bool.{Bool, true, false, cond, not, ◌&&◌, ◌||◌, and-false}
@@ -11,12 +13,13 @@ use lib.Seq.{drop-cons, length-take-le, take_at, drop_at}
 use borrow.Author.Tests.{le-leb, lt-leb, lt-ltb, ne_eqb, eqb-true, ltb-true}
 use Rattle.scan.specs.Lists.{drop_while}
 use Rattle.utf8.specs.Utf8.{within, char_len, piece_len, chars_from, chars, is_char, code_point, encode}
-use Rattle.text.specs.White.{is_white, is_space, skip, trim_start, trim_end, after_token, white_len}
+use Rattle.text.specs.White.{is_white, is_space, skip, trim_start, trim_end, after_token, white_len, unless_zero}
 use Rattle.utf8.proofs.TestLaws.{both, either, in_range, upto}
 use Rattle.utf8.proofs.CharLaws.{Begins, char_begins, char_le, char_one, wide_cases, piece_pos, piece_le}
 use Rattle.utf8.proofs.ListLaws.{flatten_append}
 use Rattle.utf8.proofs.CharsLaws.{First, chars_first, chars_front, chars_more, char_piece, chars_append, chars_of_front, chars_of_rest, flatten_chars}
 use Rattle.utf8.proofs.EncodeLaws.{Decodes, char_decodes}
+use Rattle.text.proofs.LengthLaws.{zero_none, more_some, one_some, none_zero, some_more, told_same, told_other}
 
 -- of the code points above 0x3000 none is white
 high_white : (u : ℕ) → 0x3000 < u → is_white u ≡ false
@@ -254,10 +257,10 @@ module _ (t : List ℕ) (k : ℕ) (e : k ≡ white_len (chars t)) where
   start_more n = skip_more is_space t (some n) (is_space_lem n).0 ∙ ap (λ m. trim_start (drop m t)) (sym (is_space_lem n).1)
 
   -- ink_len
-  pub ink_none : (k ≡ 0 → ⊥) → 0 ≡ piece_len t - white_len (chars t)
+  ink_none : (k ≡ 0 → ⊥) → 0 ≡ piece_len t - white_len (chars t)
   ink_none n = omega (arith, e, (is_space_lem n).1)
 
-  pub ink_some : (m : ℕ) → k ≡ 0 → m ≡ piece_len t → m ≡ piece_len t - white_len (chars t)
+  ink_some : (m : ℕ) → k ≡ 0 → m ≡ piece_len t → m ≡ piece_len t - white_len (chars t)
   ink_some m z f = omega (arith, e)
 
   -- token_end
@@ -386,44 +389,50 @@ module _ (s : List ℕ) (k : ℕ) (l : List ℕ) (e : l ≡ drop (length s - k) 
       let z : drop (piece_len l) l ≡ [] = drop_of_length-le l {i = piece_len l} (omega (arith, r.size, short)) in
       f ∙ ap (λ m. p ∷ m) (sym r.rest ∙ ap chars z)
 
-  pub end_some : (w : ℕ) → w ≡ white_len (chars l) → w ≡ k → 0 < k → k ≡ white_len (reverse (chars s))
+  end_some : k ≡ white_len (chars l) → 0 < k → k ≡ white_len (reverse (chars s))
   unfolding white_len chars_from
-  end_some w f g h = go (chars l) refl f
+  end_some f h = go (chars l) refl f
     where
-      by : (p : List ℕ) (m : List (List ℕ)) → chars l ≡ p ∷ m → (b : Bool) → is_space p ≡ b → w ≡ cond b (length p) 0 → k ≡ white_len (reverse (chars s))
+      by : (p : List ℕ) (m : List (List ℕ)) → chars l ≡ p ∷ m → (b : Bool) → is_space p ≡ b → k ≡ cond b (length p) 0 → k ≡ white_len (reverse (chars s))
       by p m c true y z =
           let r : First l p m = chars_first l p m c in
           let b : Begins l = char_begins l (omega (arith, r.is_char_lem, space_char p y)) in
-          let q : reverse (chars s) ≡ p ∷ reverse (chars (take (length s - k) s)) = ap (λ x. reverse (chars x)) (sym whole) ∙ ends (take (length s - k) s) l p b (alone p m c (sym z ∙ g)) in
-          sym (ap white_len q ∙ simp y (sym z ∙ g))
+          let q : reverse (chars s) ≡ p ∷ reverse (chars (take (length s - k) s)) = ap (λ x. reverse (chars x)) (sym whole) ∙ ends (take (length s - k) s) l p b (alone p m c (sym z)) in
+          sym (ap white_len q ∙ simp y (sym z))
       by p m c false y z = absurd (omega arith)
 
-      go : (r : List (List ℕ)) → chars l ≡ r → w ≡ white_len r → k ≡ white_len (reverse (chars s))
+      go : (r : List (List ℕ)) → chars l ≡ r → k ≡ white_len r → k ≡ white_len (reverse (chars s))
       go [] c z = absurd (omega arith)
       go (p ∷ m) c z = by p m c (is_space p) refl z
+
+  pub end_told : (o : Option ℕ) (r : Bool) → o ≡ unless_zero (white_len (chars l)) → r ≡ option_eq eqb o (Some k) → r ≡ true → 0 < k → Some k ≡ unless_zero (white_len (reverse (chars s)))
+  end_told o r f q y h = more_some k (white_len (reverse (chars s))) (end_some (told_same k o (white_len (chars l)) r f q y) h) h
 
 -- the last byte is ASCII: it is the last character
 last_byte : (s : List ℕ) → 0 < length s → drop (length s - 1) s ≡ get_or s (length s - 1) 0 ∷ []
 last_byte s h = drop-cons s (length s - 1) 0 (omega arith) ∙ ap (λ l. get_or s (length s - 1) 0 ∷ l) (drop_of_length-le s {i = suc (length s - 1)} (omega arith))
 
-pub end_ascii : (s l : List ℕ) (w : ℕ) → (length s ≡ 0 → ⊥) → get_or s (length s - 1) 0 < 0x80 → l ≡ drop (length s - 1) s → w ≡ white_len (chars l)
-    → w ≡ white_len (reverse (chars s))
+end_ascii : (s l : List ℕ) → (length s ≡ 0 → ⊥) → get_or s (length s - 1) 0 < 0x80 → l ≡ drop (length s - 1) s → white_len (chars l) ≡ white_len (reverse (chars s))
 unfolding white_len chars_from
-end_ascii s l w n h e f = go (get_or s (length s - 1) 0) h (e ∙ last_byte s (omega arith))
+end_ascii s l n h e = go (get_or s (length s - 1) 0) h (e ∙ last_byte s (omega arith))
   where
-    go : (b : ℕ) → b < 0x80 → l ≡ b ∷ [] → w ≡ white_len (reverse (chars s))
+    go : (b : ℕ) → b < 0x80 → l ≡ b ∷ [] → white_len (chars l) ≡ white_len (reverse (chars s))
     go b h g =
         let c : chars (b ∷ []) ≡ (b ∷ []) ∷ [] = chars_front (b ∷ []) [] (omega arith) (omega (arith, char_one (b ∷ []) (λ z. omega arith) h)) in
         let q : reverse (chars s) ≡ (b ∷ []) ∷ reverse (chars (take (length s - 1) s)) =
         ap (λ x. reverse (chars x)) (sym (whole s 1 l e) ∙ ap (λ x. take (length s - 1) s ++ x) g) ∙ ends (take (length s - 1) s) (b ∷ []) (b ∷ []) (simp (lt-leb 0x80 b h)) c in
-        f ∙ ap (λ x. white_len (chars x)) g ∙ ap white_len c ∙ sym (ap white_len q)
+        ap (λ x. white_len (chars x)) g ∙ ap white_len c ∙ sym (ap white_len q)
 
-pub end_none : (s l₂ l₃ : List ℕ) (w₂ w₃ : ℕ) → (length s ≡ 0 → ⊥) → 0x80 ≤ get_or s (length s - 1) 0
-    → l₂ ≡ drop (length s - 2) s → w₂ ≡ white_len (chars l₂) → (w₂ ≡ 2 → ⊥)
-    → l₃ ≡ drop (length s - 3) s → w₃ ≡ white_len (chars l₃) → (w₃ ≡ 3 → ⊥)
+pub end_byte : (s l : List ℕ) (o : Option ℕ) → (length s ≡ 0 → ⊥) → get_or s (length s - 1) 0 < 0x80 → l ≡ drop (length s - 1) s → o ≡ unless_zero (white_len (chars l))
+    → o ≡ unless_zero (white_len (reverse (chars s)))
+end_byte s l o n h e f = f ∙ ap unless_zero (end_ascii s l n h e)
+
+pub end_none : (s l₂ l₃ : List ℕ) → (length s ≡ 0 → ⊥) → 0x80 ≤ get_or s (length s - 1) 0
+    → l₂ ≡ drop (length s - 2) s → (white_len (chars l₂) ≡ 2 → ⊥)
+    → l₃ ≡ drop (length s - 3) s → (white_len (chars l₃) ≡ 3 → ⊥)
     → 0 ≡ white_len (reverse (chars s))
 unfolding white_len
-end_none s l₂ l₃ w₂ w₃ n h e₂ f₂ n₂ e₃ f₃ n₃ = go (reverse (chars s)) refl
+end_none s l₂ l₃ n h e₂ n₂ e₃ n₃ = go (reverse (chars s)) refl
   where
     -- p is the last character, and white
     never : (p : List ℕ) (m : List (List ℕ)) → reverse (chars s) ≡ p ∷ m → is_space p ≡ true → ⊥
@@ -436,8 +445,8 @@ end_none s l₂ l₃ w₂ w₃ n h e₂ f₂ n₂ e₃ f₃ n₃ = go (reverse (
         upto 0x80 (get_or p 0 0)
         (λ l. wide_cases p l
         (λ k. omega arith)
-        (λ k. n₂ (f₂ ∙ ap (λ x. white_len (chars x)) (e₂ ∙ ap (λ i. drop (length s - i) s) (sym k ∙ sym z) ∙ d) ∙ w ∙ z ∙ k))
-        (λ k. n₃ (f₃ ∙ ap (λ x. white_len (chars x)) (e₃ ∙ ap (λ i. drop (length s - i) s) (sym k ∙ sym z) ∙ d) ∙ w ∙ z ∙ k))
+        (λ k. n₂ (ap (λ x. white_len (chars x)) (e₂ ∙ ap (λ i. drop (length s - i) s) (sym k ∙ sym z) ∙ d) ∙ w ∙ z ∙ k))
+        (λ k. n₃ (ap (λ x. white_len (chars x)) (e₃ ∙ ap (λ i. drop (length s - i) s) (sym k ∙ sym z) ∙ d) ∙ w ∙ z ∙ k))
         (λ k. four_space p y k (z ∙ k)))
         (λ l.
         let o : 1 ≡ char_len p = char_one p (λ x. omega arith) l in
@@ -455,7 +464,7 @@ end_none s l₂ l₃ w₂ w₃ n h e₂ f₂ n₂ e₃ f₃ n₃ = go (reverse (
 -- the last byte by itself
 module _ (t : List ℕ) (h : 0 < length t) where
   back : (k : ℕ) → get_or t (length t - 1) 0 < 0x80 → k ≡ white_len (chars (drop (length t - 1) t)) → k ≡ white_len (reverse (chars t))
-  back k l e = end_ascii t (drop (length t - 1) t) k (λ z. omega arith) l refl e
+  back k l e = e ∙ end_ascii t (drop (length t - 1) t) (λ z. omega arith) l refl
 
   byte : get_or (drop (length t - 1) t) 0 0 ≡ get_or t (length t - 1) 0
   byte = ap (λ x. get_or x 0 0) (last_byte t h)
@@ -480,6 +489,13 @@ module _ (t : List ℕ) (h : 0 < length t) where
   pub back_seen : 0x21 ≤ get_or t (length t - 1) 0 → get_or t (length t - 1) 0 ≤ 0x7E → 0 ≡ white_len (reverse (chars t))
   back_seen l m = back_visible (seen (get_or t (length t - 1) 0) l m)
 
+-- other_ink_len
+pub ink_white : (t : List ℕ) (k : ℕ) → Some k ≡ unless_zero (white_len (chars t)) → 0 ≡ piece_len t - white_len (chars t)
+ink_white t k f = let x = some_more k (white_len (chars t)) f in ink_none t k x.0 (λ z. omega (arith, x.1))
+
+pub ink_other : (t : List ℕ) (m : ℕ) → None ≡ unless_zero (white_len (chars t)) → m ≡ piece_len t → m ≡ piece_len t - white_len (chars t)
+ink_other t m f e = omega (arith, none_zero (white_len (chars t)) f)
+
 -- visible ASCII is ink, and a space is none
 module _ (t : List ℕ) (h : 0 < length t) where
   pub ink_seen : 0x21 ≤ get_or t 0 0 → get_or t 0 0 ≤ 0x7E → 1 ≡ piece_len t - white_len (chars t)
@@ -494,10 +510,10 @@ end_end [] h = refl
 end_end (b ∷ t) h = absurd (omega arith)
 
 -- what the tests of a character use, at the front and at the end
-pub ruleset wide_laws = (char_le, two_yes, two_no, three_yes, three_no, other_no)
+pub ruleset wide_laws = (char_le, two_yes, two_no, three_yes, three_no, other_no, zero_none, more_some)
 
-pub ruleset front_laws = (none_white, front_space, front_seen, one_white)
+pub ruleset front_laws = (none_white, front_space, front_seen, one_white, zero_none, more_some, one_some)
 
-pub ruleset end_laws = (end_empty, back_space, back_feed, back_seen, end_ascii, end_some, end_none)
+pub ruleset end_laws = (end_empty, back_space, back_feed, back_seen, end_byte, end_told, end_none, zero_none, more_some, told_other)
 
-pub ruleset ink_laws = (ink_seen, ink_space, ink_none, ink_some)
+pub ruleset ink_laws = (ink_seen, ink_space, ink_white, ink_other)

@@ -1,5 +1,5 @@
 -- White space, trimming and tokens (01, Text), all said of the text's characters.
-use Rattle.std.specs.Prelude.{ℕ, ◌-◌, Bool, cond, not, ◌&&◌, ◌||◌, length, drop, eqb, Option, Some, None}
+use Rattle.std.specs.Prelude.{ℕ, zero, suc, ◌-◌, Bool, cond, not, ◌&&◌, ◌||◌, length, drop, eqb, Option, Some, None}
 use mathlib.Core.List.{List, [], ◌∷◌, map, flatten, reverse}
 use Rattle.scan.specs.Lists.{drop_while, tokens_by}
 use Rattle.utf8.specs.Utf8.{within, chars, is_char, code_point}
@@ -64,3 +64,8 @@ next_token s i = token_at s (trim_start (drop i s))
 unfoldable pub white_len : List (List ℕ) → ℕ
 white_len [] = 0
 white_len (p ∷ l) = cond (is_space p) (length p) 0
+
+-- n, or none where it is 0 (for those functions: the length of no character is 0)
+unfoldable pub unless_zero : ℕ → Option ℕ
+unless_zero zero = None
+unless_zero (suc n) = Some (suc n)

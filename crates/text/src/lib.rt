@@ -3,7 +3,7 @@
 
 ghost use Rattle.std.specs.Prelude.{◌≡◌, reverse, ◌-◌, ◌+◌, ◌*◌, ◌%◌, ◌≤◌, get_or, drop, length};
 ghost use Rattle.utf8.specs.Utf8.{piece_len, chars};
-ghost use Rattle.text.specs.White.{is_white, trim_start, trim_end, trim as trimOf, next_token, white_len, after_token};
+ghost use Rattle.text.specs.White.{is_white, trim_start, trim_end, trim as trimOf, next_token, white_len, unless_zero, after_token};
 
 // 01's list of White_Space.
 #[tactic(auto, unfolding(crate::specs::White::is_white))]
@@ -38,45 +38,43 @@ fn code_three(a: u8, b: u8, c: u8) -> u32
     (u32::from(a) % 16 * 64 + u32::from(b) % 64) * 64 + u32::from(c) % 64
 }
 
-// How many bytes the white character at the front has, which is not ASCII; 0 where there is none.
-// None has four.
+// How many bytes the white character at the front has, which is not ASCII, or None where there is
+// none. No white character has four.
 #[tactic(auto, using(crate::proofs::WhiteLaws::wide_laws))]
-fn wide_white(s: &[u8]) -> usize
+fn wide_white(s: &[u8]) -> Option<usize>
     requires { 0x80 ≤ get_or s.now 0 0 }
-    ensures { result ≡ white_len (chars s.now) }
+    ensures { result ≡ unless_zero (white_len (chars s.now)) }
 {
     match utf8::char_len(s) {
-        2 if is_white(code_two(s[0], s[1])) => 2,
-        3 if is_white(code_three(s[0], s[1], s[2])) => 3,
-        _ => 0,
+        2 if is_white(code_two(s[0], s[1])) => Some(2),
+        3 if is_white(code_three(s[0], s[1], s[2])) => Some(3),
+        _ => None,
     }
 }
 
-// How many bytes the white character at the front has; 0 where there is none. Spaces and visible
-// ASCII, which are nearly all, are told first, in the loops themselves.
-// Stays a length, as white_len in the definition: that of no character is 0, and ink_len's contract
-// takes it from the length of the character at the front.
+// How many bytes the white character at the front has. Spaces and visible ASCII, which are nearly
+// all, are told first, in the loops themselves.
 #[inline(always)]
 #[tactic(auto, using(crate::proofs::WhiteLaws::front_laws))]
-fn white(s: &[u8]) -> usize
-    ensures { result ≡ white_len (chars s.now) }
+fn white(s: &[u8]) -> Option<usize>
+    ensures { result ≡ unless_zero (white_len (chars s.now)) }
 {
     match s.first() {
-        None => 0,
-        Some(b' ') => 1,
-        Some(0x21..=0x7E) => 0,
+        None => None,
+        Some(b' ') => Some(1),
+        Some(0x21..=0x7E) => None,
         Some(_) => other_white(s),
     }
 }
 
 // The same, of any character.
 #[tactic(auto, using(crate::proofs::WhiteLaws::front_laws))]
-fn other_white(s: &[u8]) -> usize
-    ensures { result ≡ white_len (chars s.now) }
+fn other_white(s: &[u8]) -> Option<usize>
+    ensures { result ≡ unless_zero (white_len (chars s.now)) }
 {
     match s.first() {
-        None => 0,
-        Some(&b) if b < 0x80 => usize::from(is_white(u32::from(b))),
+        None => None,
+        Some(&b) if b < 0x80 => is_white(u32::from(b)).then_some(1),
         Some(_) => wide_white(s),
     }
 }
@@ -88,33 +86,32 @@ fn last(s: &[u8], k: usize) -> &[u8]
     &s[s.len().saturating_sub(k)..]
 }
 
-// How many bytes the white character at the end has; 0 where there is none. Every line ends with a
-// line feed, so this is told first too.
-// Stays a length, as white.
+// How many bytes the white character at the end has. Every line ends with a line feed, so this is
+// told first too.
 #[inline(always)]
 #[tactic(auto, using(crate::proofs::WhiteLaws::end_laws))]
-fn white_end(s: &[u8]) -> usize
-    ensures { result ≡ white_len (reverse (chars s.now)) }
+fn white_end(s: &[u8]) -> Option<usize>
+    ensures { result ≡ unless_zero (white_len (reverse (chars s.now))) }
 {
     match s.last() {
-        None => 0,
-        Some(b' ' | b'\n') => 1,
-        Some(0x21..=0x7E) => 0,
+        None => None,
+        Some(b' ' | b'\n') => Some(1),
+        Some(0x21..=0x7E) => None,
         Some(_) => other_white_end(s),
     }
 }
 
 // The same, of any character.
 #[tactic(auto, using(crate::proofs::WhiteLaws::end_laws))]
-fn other_white_end(s: &[u8]) -> usize
-    ensures { result ≡ white_len (reverse (chars s.now)) }
+fn other_white_end(s: &[u8]) -> Option<usize>
+    ensures { result ≡ unless_zero (white_len (reverse (chars s.now))) }
 {
     match s.last() {
-        None => 0,
+        None => None,
         Some(&b) if b < 0x80 => other_white(last(s, 1)),
-        Some(_) if other_white(last(s, 2)) == 2 => 2,
-        Some(_) if other_white(last(s, 3)) == 3 => 3,
-        Some(_) => 0,
+        Some(_) if other_white(last(s, 2)) == Some(2) => Some(2),
+        Some(_) if other_white(last(s, 3)) == Some(3) => Some(3),
+        Some(_) => None,
     }
 }
 
@@ -127,13 +124,10 @@ pub fn trim_start(s: &[u8]) -> &[u8]
     let mut i = 0;
     // Stays a loop over a place: slices cut anew here and in the next two loops cost a tenth of all
     // reading (docs/PERFORMANCE.md), and an iterator over characters would hold the same place.
-    loop {
-        let k = white(&s[i..]);
-        if k == 0 {
-            return &s[i..];
-        }
+    while let Some(k) = white(&s[i..]) {
         i += k;
     }
+    &s[i..]
 }
 
 // What is left in front of the white space at the end.
@@ -143,13 +137,10 @@ pub fn trim_end(s: &[u8]) -> &[u8]
 {
     let mut n = s.len();
     // Stays a loop over a place, as in trim_start.
-    loop {
-        let k = white_end(&s[..n]);
-        if k == 0 {
-            return &s[..n];
-        }
+    while let Some(k) = white_end(&s[..n]) {
         n -= k;
     }
+    &s[..n]
 }
 
 // What is left between the white space at both ends.
@@ -185,7 +176,10 @@ fn ink_len(s: &[u8]) -> usize
 fn other_ink_len(s: &[u8]) -> usize
     ensures { result ≡ piece_len s.now - white_len (chars s.now) }
 {
-    if other_white(s) == 0 { piece_len(s) } else { 0 }
+    match other_white(s) {
+        None => piece_len(s),
+        Some(_) => 0,
+    }
 }
 
 // Where the characters from the place `at` on that are not white end.

@@ -4,8 +4,8 @@ use lib.ListN.{length, take}
 use Rattle.text.specs.White.{trim_end}
 use Rattle.text.proofs.trim_end.Given as goal
 
-abbrev pub invariant-loop-n : goal.invariant-loop-n
-invariant-loop-n l = (l.n ≤ length l.s) × (trim_end l.s ≡ trim_end (take l.n l.s))
+abbrev pub invariant-loop-k : goal.invariant-loop-k
+invariant-loop-k l = (l.n ≤ length l.s) × (trim_end l.s ≡ trim_end (take l.n l.s))
 
-abbrev pub decreases-loop-n : goal.decreases-loop-n
-decreases-loop-n l = l.n
+abbrev pub decreases-loop-k : goal.decreases-loop-k
+decreases-loop-k l = l.n
