@@ -59,11 +59,10 @@ fn wide_white(s: &[u8]) -> Option<usize>
 fn white(s: &[u8]) -> Option<usize>
     ensures { result ≡ unless_zero (white_len (chars s.now)) }
 {
-    match s.first() {
-        None => None,
-        Some(b' ') => Some(1),
-        Some(0x21..=0x7E) => None,
-        Some(_) => other_white(s),
+    match s.first()? {
+        b' ' => Some(1),
+        0x21..=0x7E => None,
+        _ => other_white(s),
     }
 }
 
@@ -72,10 +71,9 @@ fn white(s: &[u8]) -> Option<usize>
 fn other_white(s: &[u8]) -> Option<usize>
     ensures { result ≡ unless_zero (white_len (chars s.now)) }
 {
-    match s.first() {
-        None => None,
-        Some(&b) if b < 0x80 => is_white(u32::from(b)).then_some(1),
-        Some(_) => wide_white(s),
+    match *s.first()? {
+        b if b < 0x80 => is_white(u32::from(b)).then_some(1),
+        _ => wide_white(s),
     }
 }
 
@@ -93,11 +91,10 @@ fn last(s: &[u8], k: usize) -> &[u8]
 fn white_end(s: &[u8]) -> Option<usize>
     ensures { result ≡ unless_zero (white_len (reverse (chars s.now))) }
 {
-    match s.last() {
-        None => None,
-        Some(b' ' | b'\n') => Some(1),
-        Some(0x21..=0x7E) => None,
-        Some(_) => other_white_end(s),
+    match s.last()? {
+        b' ' | b'\n' => Some(1),
+        0x21..=0x7E => None,
+        _ => other_white_end(s),
     }
 }
 
@@ -106,12 +103,11 @@ fn white_end(s: &[u8]) -> Option<usize>
 fn other_white_end(s: &[u8]) -> Option<usize>
     ensures { result ≡ unless_zero (white_len (reverse (chars s.now))) }
 {
-    match s.last() {
-        None => None,
-        Some(&b) if b < 0x80 => other_white(last(s, 1)),
-        Some(_) if other_white(last(s, 2)) == Some(2) => Some(2),
-        Some(_) if other_white(last(s, 3)) == Some(3) => Some(3),
-        Some(_) => None,
+    match *s.last()? {
+        b if b < 0x80 => other_white(last(s, 1)),
+        _ if other_white(last(s, 2)) == Some(2) => Some(2),
+        _ if other_white(last(s, 3)) == Some(3) => Some(3),
+        _ => None,
     }
 }
 
