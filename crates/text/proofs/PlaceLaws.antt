@@ -31,10 +31,10 @@ module _ (s : List ℕ) (i : ℕ) where
 
   module _ (k : ℕ) (f : Some k ≡ unless_zero (white_len (chars (take (length s - i) (drop i s))))) where
     white_is : k ≡ white_len (chars (drop i s))
-    white_is = (some_more k (white_len (chars rest)) f).0 ∙ white_rest
+    white_is = (some_more k _ f).0 ∙ white_rest
 
-    pub white_some : 0 < k
-    white_some = (some_more k (white_len (chars rest)) f).1
+    pub white_pos : 0 < k
+    white_pos = (some_more k _ f).1
 
     pub white_inside : i ≤ length s → i + k ≤ length s
     white_inside h = omega (arith, white_within (drop i s) k white_is, length-drop i s)
@@ -45,10 +45,10 @@ module _ (s : List ℕ) (i : ℕ) where
 -- trim_start
 module _ (s : List ℕ) (i : ℕ) (e : trim_start s ≡ trim_start (drop i s)) where
   pub white_kept : None ≡ unless_zero (white_len (chars (take (length s - i) (drop i s)))) → take (length s - i) (drop i s) ≡ trim_start s
-  white_kept f = rest_is s i ∙ sym (e ∙ start_stop (drop i s) 0 (sym (none_zero (white_len (chars (rest s i))) f) ∙ white_rest s i) refl)
+  white_kept f = rest_is s i ∙ sym (e ∙ start_stop (drop i s) 0 (sym (none_zero _ f) ∙ white_rest s i) refl)
 
   pub white_passed : (k : ℕ) → Some k ≡ unless_zero (white_len (chars (take (length s - i) (drop i s)))) → trim_start s ≡ trim_start (drop (i + k) s)
-  white_passed k f = e ∙ start_more (drop i s) k (white_is s i k f) (λ z. omega (arith, white_some s i k f)) ∙ ap trim_start (drop-drop k i s)
+  white_passed k f = e ∙ start_more (drop i s) k (white_is s i k f) (λ z. omega (arith, white_pos s i k f)) ∙ ap trim_start (drop-drop k i s)
 
 -- token_end
 module _ (s : List ℕ) (at i : ℕ) (e : after_token (drop at s) ≡ after_token (drop i s)) where
@@ -59,18 +59,21 @@ module _ (s : List ℕ) (at i : ℕ) (e : after_token (drop at s) ≡ after_toke
   token_ended h l = ended h (token_none (drop i s) (simp length-drop (omega arith)))
 
   module _ (h : i < length s) where
-    on : (k : ℕ) → k ≡ piece_len (drop i s) - white_len (chars (drop i s)) → (k ≡ 0 → ⊥) → after_token (drop at s) ≡ after_token (drop (i + k) s)
-    on k f n = e ∙ ink_more (drop i s) k f (some_left s i h) n ∙ ap after_token (drop-drop k i s)
+    ink_rest : piece_len (take (length s - i) (drop i s)) - white_len (chars (take (length s - i) (drop i s))) ≡ piece_len (drop i s) - white_len (chars (drop i s))
+    ink_rest = ap (λ t. piece_len t - white_len (chars t)) (rest_is s i)
 
-    module _ (k : ℕ) (f : k ≡ piece_len (take (length s - i) (drop i s)) - white_len (chars (take (length s - i) (drop i s)))) where
+    pub white_ends : None ≡ unless_zero (piece_len (take (length s - i) (drop i s)) - white_len (chars (take (length s - i) (drop i s)))) → i ≡ length s - length (after_token (drop at s))
+    white_ends f = ended (omega arith) (ink_stop (drop i s) 0 (sym (none_zero _ f) ∙ ink_rest) refl)
+
+    module _ (k : ℕ) (f : Some k ≡ unless_zero (piece_len (take (length s - i) (drop i s)) - white_len (chars (take (length s - i) (drop i s))))) where
       ink_is : k ≡ piece_len (drop i s) - white_len (chars (drop i s))
-      ink_is = f ∙ ap (λ t. piece_len t - white_len (chars t)) (rest_is s i)
+      ink_is = (some_more k _ f).0 ∙ ink_rest
 
-      pub white_ends : k ≡ 0 → i ≡ length s - length (after_token (drop at s))
-      white_ends z = ended (omega arith) (ink_stop (drop i s) k ink_is z)
+      pub ink_pos : 0 < k
+      ink_pos = (some_more k _ f).1
 
-      pub ink_on : (k ≡ 0 → ⊥) → after_token (drop at s) ≡ after_token (drop (i + k) s)
-      ink_on n = on k ink_is n
+      pub ink_on : after_token (drop at s) ≡ after_token (drop (i + k) s)
+      ink_on = e ∙ ink_more (drop i s) k ink_is (some_left s i h) (λ z. omega (arith, ink_pos)) ∙ ap after_token (drop-drop k i s)
 
       pub ink_inside : i + k ≤ length s
       ink_inside = omega (arith, ink_is, piece_le (drop i s) (some_left s i h), length-drop i s)
@@ -87,10 +90,10 @@ less_in_front s n k h = omega arith
 
 module _ (s : List ℕ) (n k : ℕ) (h : n ≤ length s) (f : Some k ≡ unless_zero (white_len (reverse (chars (take n s))))) where
   white_end_is : (k ≡ white_len (reverse (chars (take n s)))) × (0 < k)
-  white_end_is = some_more k (white_len (reverse (chars (take n s)))) f
+  white_end_is = some_more k _ f
 
-  pub white_end_some : 0 < k
-  white_end_some = white_end_is.1
+  pub white_end_pos : 0 < k
+  white_end_pos = white_end_is.1
 
   pub white_end_inside : k ≤ n
   white_end_inside = omega (arith, white_end_within (take n s) k white_end_is.0, length-take-le n s h)
@@ -101,17 +104,17 @@ module _ (s : List ℕ) (n : ℕ) (h : n ≤ length s) (e : trim_end s ≡ trim_
   size = length-take-le n s h
 
   pub white_end_kept : None ≡ unless_zero (white_len (reverse (chars (take n s)))) → take n s ≡ trim_end s
-  white_end_kept f = sym (e ∙ end_stop (take n s) 0 (sym (none_zero (white_len (reverse (chars (take n s)))) f)) refl)
+  white_end_kept f = sym (e ∙ end_stop (take n s) 0 (sym (none_zero _ f)) refl)
 
   pub white_end_passed : (k : ℕ) → Some k ≡ unless_zero (white_len (reverse (chars (take n s)))) → trim_end s ≡ trim_end (take (n - k) s)
   white_end_passed k f =
-      e ∙ end_more (take n s) k (white_end_is s n k h f).0 (λ z. omega (arith, white_end_some s n k h f))
+      e ∙ end_more (take n s) k (white_end_is s n k h f).0 (λ z. omega (arith, white_end_pos s n k h f))
       ∙ ap (λ m. trim_end (take (m - k) (take n s))) size
       ∙ ap trim_end (take-take (n - k) n s (omega arith))
 
 -- what the loops use
-pub ruleset start_laws = (white_some, white_inside, white_fits, white_kept, white_passed)
+pub ruleset start_laws = (white_pos, white_inside, white_fits, white_kept, white_passed)
 
-pub ruleset token_laws = (white_ends, ink_on, ink_inside, ink_fits, token_ended)
+pub ruleset token_laws = (white_ends, ink_pos, ink_on, ink_inside, ink_fits, token_ended)
 
-pub ruleset end_laws = (all_in_front, less_in_front, white_end_some, white_end_inside, white_end_kept, white_end_passed)
+pub ruleset end_laws = (all_in_front, less_in_front, white_end_pos, white_end_inside, white_end_kept, white_end_passed)

@@ -406,7 +406,7 @@ module _ (s : List ℕ) (k : ℕ) (l : List ℕ) (e : l ≡ drop (length s - k) 
       go (p ∷ m) c z = by p m c (is_space p) refl z
 
   pub end_told : (o : Option ℕ) (r : Bool) → o ≡ unless_zero (white_len (chars l)) → r ≡ option_eq eqb o (Some k) → r ≡ true → 0 < k → Some k ≡ unless_zero (white_len (reverse (chars s)))
-  end_told o r f q y h = more_some k (white_len (reverse (chars s))) (end_some (told_same k o (white_len (chars l)) r f q y) h) h
+  end_told o r f q y h = more_some k _ (end_some (told_same k o _ r f q y) h) h
 
 -- the last byte is ASCII: it is the last character
 last_byte : (s : List ℕ) → 0 < length s → drop (length s - 1) s ≡ get_or s (length s - 1) 0 ∷ []
@@ -491,10 +491,10 @@ module _ (t : List ℕ) (h : 0 < length t) where
 
 -- other_ink_len
 pub ink_white : (t : List ℕ) (k : ℕ) → Some k ≡ unless_zero (white_len (chars t)) → 0 ≡ piece_len t - white_len (chars t)
-ink_white t k f = let x = some_more k (white_len (chars t)) f in ink_none t k x.0 (λ z. omega (arith, x.1))
+ink_white t k f = let x = some_more k _ f in ink_none t k x.0 (λ z. omega (arith, x.1))
 
 pub ink_other : (t : List ℕ) (m : ℕ) → None ≡ unless_zero (white_len (chars t)) → m ≡ piece_len t → m ≡ piece_len t - white_len (chars t)
-ink_other t m f e = omega (arith, none_zero (white_len (chars t)) f)
+ink_other t m f e = omega (arith, none_zero _ f)
 
 -- visible ASCII is ink, and a space is none
 module _ (t : List ℕ) (h : 0 < length t) where
@@ -516,4 +516,4 @@ pub ruleset front_laws = (none_white, front_space, front_seen, one_white, zero_n
 
 pub ruleset end_laws = (end_empty, back_space, back_feed, back_seen, end_byte, end_told, end_none, zero_none, more_some, told_other)
 
-pub ruleset ink_laws = (ink_seen, ink_space, ink_white, ink_other)
+pub ruleset ink_laws = (ink_seen, ink_space, ink_white, ink_other, zero_none, more_some)

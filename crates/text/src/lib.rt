@@ -153,28 +153,28 @@ fn piece_len(s: &[u8]) -> usize
     utf8::char_len(s).max(1)
 }
 
-// The same where that is not white, else 0. Visible ASCII and the space, which ends nearly every
+// The same where that is not white, else None. Visible ASCII and the space, which ends nearly every
 // token, are told first, in the loop itself.
 #[inline(always)]
 #[tactic(auto, using(crate::proofs::WhiteLaws::ink_laws))]
-fn ink_len(s: &[u8]) -> usize
-    ensures { result ≡ piece_len s.now - white_len (chars s.now) }
+fn ink_len(s: &[u8]) -> Option<usize>
+    ensures { result ≡ unless_zero (piece_len s.now - white_len (chars s.now)) }
 {
     match s.first() {
-        Some(0x21..=0x7E) => 1,
-        Some(b' ') => 0,
+        Some(0x21..=0x7E) => Some(1),
+        Some(b' ') => None,
         _ => other_ink_len(s),
     }
 }
 
 // The same, of any character.
 #[tactic(auto, using(crate::proofs::WhiteLaws::ink_laws))]
-fn other_ink_len(s: &[u8]) -> usize
-    ensures { result ≡ piece_len s.now - white_len (chars s.now) }
+fn other_ink_len(s: &[u8]) -> Option<usize>
+    ensures { result ≡ unless_zero (piece_len s.now - white_len (chars s.now)) }
 {
     match other_white(s) {
-        None => piece_len(s),
-        Some(_) => 0,
+        None => Some(piece_len(s)),
+        Some(_) => None,
     }
 }
 
@@ -186,11 +186,9 @@ fn token_end(s: &[u8], at: usize) -> usize
 {
     let mut end = at;
     // Stays a while over a place, as in trim_start.
-    while end < s.len() {
-        let k = ink_len(&s[end..]);
-        if k == 0 {
-            return end;
-        }
+    while end < s.len()
+        && let Some(k) = ink_len(&s[end..])
+    {
         end += k;
     }
     end
