@@ -38,7 +38,8 @@ fn is_four(a: u8, b: u8, c: u8, d: u8) -> bool
 }
 
 // How many bytes the character at the front has; 0 where none begins there.
-// Stays a length, 0 for none, as text's white space: walks add it, and 0 is where they end.
+// Stays a length, as char_len in specs/Utf8.antt: that of no character is 0, and callers compare it
+// or take at least 1 of it, which an Option would make no plainer.
 #[tactic(auto, using(crate::proofs::CharLaws::char_laws))]
 pub fn char_len(s: &[u8]) -> usize
     ensures { result ≡ char_len s.now }
