@@ -65,7 +65,7 @@ unfoldable pub white_len : List (List ℕ) → ℕ
 white_len [] = 0
 white_len (p ∷ l) = cond (is_space p) (length p) 0
 
--- a length as those functions answer it: None where it is 0, which is the length of no character
+-- a length as the code answers it: None for 0, the length of no character
 unfoldable pub unless_zero : ℕ → Option ℕ
 unless_zero zero = None
 unless_zero (suc n) = Some (suc n)

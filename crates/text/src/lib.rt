@@ -153,8 +153,8 @@ fn piece_len(s: &[u8]) -> usize
     utf8::char_len(s).max(1)
 }
 
-// The same where that is not white, else None. Visible ASCII and the space, which ends nearly every
-// token, are told first, in the loop itself.
+// The same where that is not white. Visible ASCII and the space, which ends nearly every token, are
+// told first, in the loop itself.
 #[inline(always)]
 #[tactic(auto, using(crate::proofs::WhiteLaws::ink_laws))]
 fn ink_len(s: &[u8]) -> Option<usize>
