@@ -70,21 +70,6 @@ struct Buffers {
     asns: [u32; PLACES],
 }
 
-impl Buffers {
-    // With the front printed.
-    fn new(state: State) -> Buffers
-        ensures { Starts (front_of state) result.start result.front_len state.remembered 0 }
-    {
-        let mut start = [0; START];
-        let front_len = put_start(state, &mut start);
-        Buffers {
-            start,
-            front_len,
-            asns: [0; PLACES],
-        }
-    }
-}
-
 // Prints what the lines of a table begin with: its length, 0 where it has no room.
 fn put_start(state: State, out: &mut [u8]) -> usize
     ensures { Starts (front_of state) out.new result state.remembered 0 }
@@ -286,6 +271,13 @@ pub(crate) fn run_body(state: State, number: u64, input: &[u8], ended: bool, out
     requires { Fine state state.remembered }
     ensures { Runs (phase.Body state number) input.now ended out.old result out.new }
 {
-    let mut buffers = Buffers::new(state);
+    let mut start = [0; START];
+    let front_len = put_start(state, &mut start);
+    // Made here, in its place: given back by a function, the AS numbers' places were cleared twice.
+    let mut buffers = Buffers {
+        start,
+        front_len,
+        asns: [0; PLACES],
+    };
     take_body(&mut buffers, state, number, input, ended, out)
 }
