@@ -271,13 +271,12 @@ pub(crate) fn run_body(state: State, number: u64, input: &[u8], ended: bool, out
     requires { Fine state state.remembered }
     ensures { Runs (phase.Body state number) input.now ended out.old result out.new }
 {
-    let mut start = [0; START];
-    let front_len = put_start(state, &mut start);
-    // Made here, in its place: given back by a function, the AS numbers' places were cleared twice.
+    // All zeros at first and the front put in after, so that the places are cleared once.
     let mut buffers = Buffers {
-        start,
-        front_len,
+        start: [0; START],
+        front_len: 0,
         asns: [0; PLACES],
     };
+    buffers.front_len = put_start(state, &mut buffers.start);
     take_body(&mut buffers, state, number, input, ended, out)
 }
