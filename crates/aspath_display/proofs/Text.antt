@@ -1,23 +1,51 @@
 -- Laws of texts behind separators, and of a path's text.
 use mathlib.Core.Path.{◌≡◌, refl, sym, ap, ◌∙◌}
-use mathlib.Core.List.{List, [], ◌∷◌, ◌++◌}
-use mathlib.Core.Bool.{true, false}
+use mathlib.Core.List.{List, [], ◌∷◌, ◌++◌, map}
+use mathlib.Core.Bool.{Bool, true, false}
 use Prim.Native.Nat.{ℕ, ◌+◌, ◌*◌, ◌≤◌, ◌<◌}
 use native.Mathlib.Numerals.{add-one}
 use native.Mathlib.Omega.{arith}
 use lib.ListN.{length, get_or, drop, length-append, length-map, drop_of_length-le}
 use borrow.Author.Tests.{le-leb, lt-leb}
 use lib.Seq.{drop-cons}
+use Rattle.std.specs.Iterator.{Drains}
+use Rattle.std.proofs.lemmas.Iterator.{YieldsList, items_from_drains}
+use Rattle.std.proofs.lemmas.List.{append-nil, append_assoc}
 use Rattle.decimal_display.specs.Printed.{decimal}
 use Rattle.output.specs.Writing.{Writes}
 use Rattle.output.specs.declared.Writer.{Writer}
-use Rattle.output.proofs.Writing.{Left, next_left, none_left, nothing, then, place, put}
+use Rattle.output.proofs.Writing.{nothing, then, place, put}
 use Rattle.output.proofs.Output.{kept}
-use Rattle.std.specs.Prelude.{Some, Ok, Err}
+use Rattle.std.specs.Prelude.{Option, Some, Ok, Err}
 use Rattle.aspath.specs.Record.{Segment, cut}
 use Rattle.aspath.proofs.Record.{cut_kinds}
 use Rattle.aspath_display.specs.Display.{separated, segment_text, path_text, Measured, Displayed}
 use Rattle.aspath_display.specs.declared.DisplayError.TheVariants.{TooShort}
+
+-- texts written: none, one more behind the separator, and the first
+module _ {A : Type 0} (f : A → List ℕ) (sep : ℕ) where
+  pub none_written : (first : Bool) (w : Writer) → Writes (separated sep f first []) w w
+  unfolding separated
+  none_written first w = nothing w
+
+  separated_push : (l : List A) (x : A) → separated sep f false (l ++ x ∷ []) ≡ separated sep f false l ++ (sep ∷ []) ++ f x
+  unfolding separated
+  separated_push [] x = append-nil _
+  separated_push (y ∷ l) x = rw (separated_push l x) (simp append_assoc)
+
+  pub one_more_written : (l : List A) (x : A) {w₀ w v v₁ : Writer} → Writes (separated sep f false l) w₀ w → Writes (sep ∷ []) w v → Writes (f x) v v₁
+      → Writes (separated sep f false (l ++ x ∷ [])) w₀ v₁
+  one_more_written l x known b c = rw (separated_push l x) (then (then known b) c)
+
+  -- where the items show others
+  separated_map : {X : Type 0} (v : X → A) (first : Bool) (l : List X) → separated sep (λ x. f (v x)) first l ≡ separated sep f first (map v l)
+  unfolding separated
+  separated_map v first [] = refl
+  separated_map v first (x ∷ l) = rw (separated_map v false l) refl
+
+  pub all_written : {S X : Type 0} {steps : S → Option X → S → Type 0} {s : S} {v : X → A} {all : List A} {w₀ w : Writer} → YieldsList steps v s all
+      → (l : List X) × Drains steps s l × Writes (separated sep (λ x. f (v x)) true l) w₀ w → Writes (separated sep f true all) w₀ w
+  all_written {v} e (l, d, c) = rw (separated_map v true l, items_from_drains l (d.1.0, d.1.1, λ _. (d.0, d.1.2)) e) at c
 
 -- the first text has no separator
 module _ {A : Type 0} (f : A → List ℕ) (sep : ℕ) (x : A) (l : List A) where
@@ -34,11 +62,6 @@ module _ {A : Type 0} (f : A → List ℕ) (sep : ℕ) where
   unfolding separated
   none_len [] e = refl
   none_len (x ∷ l) e = absurd (omega (arith, e))
-
-  pub none_written : (l : List A) (w : Writer) → length l ≡ 0 → Writes (separated sep f true l) w w
-  unfolding separated
-  none_written [] w e = nothing w
-  none_written (x ∷ l) w e = absurd (omega (arith, e))
 
 -- each of the others stands after one
 module _ {A : Type 0} (f : A → List ℕ) (sep : ℕ) (s : List A) (i : ℕ) where
@@ -57,15 +80,6 @@ module _ {A : Type 0} (f : A → List ℕ) (sep : ℕ) (s : List A) (i : ℕ) wh
 
     pub len_end : length s ≤ i → n ≡ length t
     len_end h = omega (arith, ap length (separated_end h))
-
-  -- written
-  module _ (t : List ℕ) (w₀ w : Writer) (known : Left t w₀ (separated sep f false (drop i s)) w) where
-    pub write_more : (d : A) → i < length s → {v₁ v : Writer} → Writes (sep ∷ []) w v₁ → Writes (f (get_or s i d)) v₁ v
-        → Left t w₀ (separated sep f false (drop (i + 1) s)) v
-    write_more d h b c = next_left (rw (← separated_more d h) known) (then b c)
-
-    pub write_end : length s ≤ i → Writes t w₀ w
-    write_end h = none_left (rw (← separated_end h) known)
 
 -- a segment's text, by its kind's number
 abbrev set : List ℕ → List ℕ
@@ -106,17 +120,10 @@ module _ (left rest : List Segment) (x : Segment) (is : left ≡ x ∷ rest) whe
   pub first_room : (v : ℕ) → length left * 344067 ≤ 1409298432 → v ≤ 344066 → v + length rest * 344067 ≤ 1409298432
   first_room v known small = omega (arith, ap length is)
 
-  pub first_segment : {w₀ w₁ w₂ : Writer} → Writes (segment_text x.kind x.numbers) w₀ w₁ → Writes (path_text false rest) w₁ w₂ → Writes (path_text true left) w₀ w₂
-  first_segment c d = rw is (first_written (λ (y : Segment). segment_text y.kind y.numbers) 32 x rest c d)
-
 -- of no segment it is empty
 pub no_items : (left : List Segment) → left ≡ [] → 0 ≡ length (path_text true left)
 unfolding separated
 no_items left e = rw e refl
-
-pub nothing_written : (left : List Segment) (w : Writer) → left ≡ [] → Writes (path_text true left) w w
-unfolding separated
-nothing_written left w e = rw e (nothing w)
 
 -- a path's text through one segment more
 module _ (left rest : List Segment) (x : Segment) (is : left ≡ x ∷ rest) where
@@ -132,19 +139,11 @@ module _ (left rest : List Segment) (x : Segment) (is : left ≡ x ∷ rest) whe
   pub item_room : (m v : ℕ) → m + length left * 344067 ≤ 1409298432 → v ≤ 344066 → m + (1 + v) + length rest * 344067 ≤ 1409298432
   item_room m v known small = omega (arith, ap length is)
 
-  pub written_step : {t : List ℕ} {w₀ w v₁ v : Writer} → Left t w₀ (path_text false left) w → Writes (32 ∷ []) w v₁
-      → Writes (segment_text x.kind x.numbers) v₁ v → Left t w₀ (path_text false rest) v
-  written_step known b c = next_left (rw text_more at known) (then b c)
-
 -- and through no more
 module _ (left : List Segment) (none : left ≡ []) where
   pub text_done : (t : List ℕ) (m : ℕ) → length t ≡ m + length (path_text false left) → m ≡ length t
   unfolding separated
   text_done t m known = omega (arith, rw none at known)
-
-  pub written_done : {t : List ℕ} {w₀ w : Writer} → Left t w₀ (path_text false left) w → Writes t w₀ w
-  unfolding separated
-  written_done known = none_left (rw none at known)
 
 -- what the call answers and leaves
 module _ {p : List Segment} {m : ℕ} (e : m ≡ length (path_text true p)) where

@@ -1,7 +1,10 @@
 -- Display of a path (impl Display for AsPath).
+use denote.Ref.{MutBor}
 use Rattle.std.specs.Prelude.{ℕ, ◌≤◌, ◌≡◌, List, [], ◌∷◌, ◌++◌, Bool, true, false, cond, ◌||◌, length, leb, eqb, Option, Some, None, Result, Ok, Err}
 use Rattle.decimal_display.specs.Printed.{decimal}
 use Rattle.output.specs.Output.{front}
+use Rattle.output.specs.Writing.{Writes}
+use Rattle.output.specs.declared.Writer.{Writer}
 use Rattle.aspath.specs.Record.{Segment}
 use Rattle.aspath_display.specs.declared.DisplayError.{DisplayError}
 use Rattle.aspath_display.specs.declared.DisplayError.TheVariants.{TooShort, Spoilt}
@@ -14,6 +17,10 @@ lead first sep = cond first [] (sep ∷ [])
 unfoldable pub separated : {A : Type 0} → ℕ → (A → List ℕ) → Bool → List A → List ℕ
 separated sep f first [] = []
 separated sep f first (x ∷ l) = lead first sep ++ f x ++ separated sep f false l
+
+-- a call for each item that writes the item's text
+abbrev pub WritesEach : {A : Type 0} → (A → MutBor Writer → Unit {0} → MutBor Writer → Type 0) → (A → List ℕ) → Type 0
+WritesEach {A} post text = (x : A) (v w : MutBor Writer) → post x v tt w → Writes (text x) v.now w.now
 
 -- a sequence has spaces between its numbers, a set commas, and braces around them
 unfoldable pub segment_text : ℕ → List ℕ → List ℕ

@@ -1,11 +1,12 @@
 // A path printed as the Rust prints it.
 #![tactic(auto)]
 
-ghost use Rattle.std.specs.Prelude.{ℕ, ◌≡◌, true, [], ◌∷◌, ◌++◌, ◌≤◌, length};
+ghost use Rattle.std.specs.Prelude.{ℕ, List, List, ◌≡◌, true, [], ◌∷◌, ◌++◌, ◌≤◌, length};
+ghost use Rattle.std.specs.Iterator.{IsFinite, Drains};
 ghost use Rattle.decimal_display.specs.Printed.{decimal};
 ghost use Rattle.output.specs.Writing.{Writes};
 ghost use Rattle.aspath.specs.Segments.{kind_number, segments_in, path_of};
-ghost use Rattle.aspath_display.specs.Display.{separated, segment_text, path_text, Measured, Displayed};
+ghost use Rattle.aspath_display.specs.Display.{separated, WritesEach, segment_text, path_text, Measured, Displayed};
 
 use aspath::{AsPath, PathRecord, Segment, SegmentKind, Spoilt};
 use output::Writer;
@@ -42,19 +43,31 @@ fn numbers_len(numbers: &[u32]) -> usize
     len
 }
 
-// Stays beside write_path, and ip_display's groups, which part other items so: a function for all
-// would take the item's writing as a closure, and a public one asks nothing of its callers.
+// Each item as `write` writes it, with the separator between each two.
+fn write_parted<I: Iterator + Drop, F: Fn(I::Item, &mut Writer)>(
+    mut items: I,
+    sep: u8,
+    write: F,
+    w: &mut Writer,
+)
+    requires ends { I.can_next items × IsFinite (I.remaining items) }
+    requires calls { F.IsAlwaysCallable write }
+    ensures { (text : I.Item → List ℕ) → WritesEach (F.post write) text → (xs : List I.Item) × Drains I.next_gives items xs × Writes (separated sep text true xs) w.old w.new }
+{
+    let Some(first) = items.next() else {
+        return;
+    };
+    write(first, w);
+    for item in items {
+        w.byte(sep);
+        write(item, w);
+    }
+}
+
 pub fn write_numbers(numbers: &[u32], sep: u8, w: &mut Writer)
     ensures { Writes (separated sep decimal true numbers.now) w.old w.new }
 {
-    let Some((first, rest)) = numbers.split_first() else {
-        return;
-    };
-    decimal_display::write_u32(*first, w);
-    for number in rest {
-        w.byte(sep);
-        decimal_display::write_u32(*number, w);
-    }
+    write_parted(numbers.iter().copied(), sep, decimal_display::write_u32, w);
 }
 
 fn segment_len(segment: Segment) -> usize
@@ -102,15 +115,7 @@ fn path_len(path: AsPath) -> usize
 fn write_path(path: AsPath, w: &mut Writer)
     ensures { Writes (path_text true (segments_in path.entry)) w.old w.new }
 {
-    let mut segments = path.segments();
-    let Some(first) = segments.next() else {
-        return;
-    };
-    write_segment(first, w);
-    for segment in segments {
-        w.byte(b' ');
-        write_segment(segment, w);
-    }
+    write_parted(path.segments(), b' ', write_segment, w);
 }
 
 pub fn display(lent: PathRecord, out: &mut [u8]) -> Result<usize, DisplayError>

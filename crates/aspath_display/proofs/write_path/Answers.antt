@@ -1,16 +1,11 @@
-use Rattle.std.proofs.Common.{◌∙◌, sym, ap}
-use Rattle.aspath.specs.Segments.{segments_left}
-use Rattle.aspath_display.proofs.Text.{nothing_written, first_segment, written_step, written_done}
+use Rattle.std.proofs.Common.{rules}
+use Rattle.std.proofs.lemmas.Iterator.Consumers.{YieldsList-from_first}
+use Rattle.aspath.specs.Segments.{segment_of, segments_left, kind_number}
+use Rattle.aspath_display.specs.Display.{segment_text}
+use Rattle.aspath_display.proofs.Text.{all_written}
 use Rattle.aspath_display.proofs.write_path.Goals as goal
-
-pub returns-in_default : goal.returns-in_default
-returns-in_default c = nothing_written _ _ (sym c.segments-segments.ensures ∙ c.in_default.ensures.steps.0)
-
-pub loop-segment-preserved : goal.loop-segment-preserved
-loop-segment-preserved c =
-    written_step _ _ _ c.in-Some-segment.ensures.steps c.loop-segment.invariant c.byte.ensures c.write_segment-in-loop-segment.ensures
 
 pub returns : goal.returns
 returns c =
-    let rest = ap segments_left c.into_iter-segment-iterator.ensures.into_iter_gives in
-    first_segment _ _ _ (sym c.segments-segments.ensures ∙ c.in-Some.ensures.steps) c.write_segment.ensures (rw rest at (written_done _ c.in-None.ensures.steps.0 c.loop-segment.invariant))
+    all_written (λ x. segment_text x.kind x.numbers) _ (YieldsList-from_first segment_of segments_left _ c.segments.ensures)
+    (c.write_parted.ensures (λ x. segment_text (kind_number x.kind) x.numbers.now) (λ x v w p. search rules))
