@@ -2,14 +2,14 @@
 use mathlib.Core.Path.{◌≡◌, refl, sym, ap, ◌∙◌}
 use mathlib.Core.List.{List, [], ◌∷◌, ◌++◌, map}
 use mathlib.Core.Bool.{Bool, true, false}
-use Prim.Native.Nat.{ℕ, ◌+◌, ◌*◌, ◌≤◌, ◌<◌}
-use native.Mathlib.Numerals.{add-one}
+use Prim.Native.Nat.{ℕ, ◌+◌, ◌-◌, ◌≤◌, ◌<◌}
 use native.Mathlib.Omega.{arith}
-use lib.ListN.{length, get_or, drop, length-append, length-map, drop_of_length-le}
+use lib.ListN.{length, length-append, length-map}
 use borrow.Author.Tests.{le-leb, lt-leb}
-use lib.Seq.{drop-cons}
 use Rattle.std.specs.Iterator.{Drains}
 use Rattle.std.proofs.lemmas.Iterator.{YieldsList, items_from_drains}
+use Rattle.std.specs.List.{sum_by}
+use Rattle.std.proofs.lemmas.List.Sums.{sum_by-cons}
 use Rattle.std.proofs.lemmas.List.{append-nil, append_assoc}
 use Rattle.decimal_display.specs.Printed.{decimal}
 use Rattle.output.specs.Writing.{Writes}
@@ -37,6 +37,10 @@ module _ {A : Type 0} (f : A → List ℕ) (sep : ℕ) where
       → Writes (separated sep f false (l ++ x ∷ [])) w₀ v₁
   one_more_written l x known b c = rw (separated_push l x) (then (then known b) c)
 
+  pub first_written : (x : A) (l : List A) {w₀ w v : Writer} → Writes (f x) w₀ w → Writes (separated sep f false l) w v → Writes (separated sep f true (x ∷ l)) w₀ v
+  unfolding separated
+  first_written x l c d = then c d
+
   -- where the items show others
   separated_map : {X : Type 0} (v : X → A) (first : Bool) (l : List X) → separated sep (λ x. f (v x)) first l ≡ separated sep f first (map v l)
   unfolding separated
@@ -47,39 +51,17 @@ module _ {A : Type 0} (f : A → List ℕ) (sep : ℕ) where
       → (l : List X) × Drains steps s l × Writes (separated sep (λ x. f (v x)) true l) w₀ w → Writes (separated sep f true all) w₀ w
   all_written {v} e (l, d, c) = rw (separated_map v true l, items_from_drains l (d.1.0, d.1.1, λ _. (d.0, d.1.2)) e) at c
 
--- the first text has no separator
-module _ {A : Type 0} (f : A → List ℕ) (sep : ℕ) (x : A) (l : List A) where
-  pub first_len : (n : ℕ) → n ≡ length (f x) → length (separated sep f true (x ∷ l)) ≡ n + length (separated sep f false l)
-  unfolding separated
-  first_len n e = rw e (length-append (f x) (separated sep f false l))
-
-  pub first_written : {w₀ w₁ w₂ : Writer} → Writes (f x) w₀ w₁ → Writes (separated sep f false l) w₁ w₂ → Writes (separated sep f true (x ∷ l)) w₀ w₂
-  unfolding separated
-  first_written c d = then c d
-
+-- each text has one byte more than its own, but the first
 module _ {A : Type 0} (f : A → List ℕ) (sep : ℕ) where
-  pub none_len : (l : List A) → length l ≡ 0 → 0 ≡ length (separated sep f true l)
+  others_len : (l : List A) → length (separated sep f false l) ≡ sum_by (λ x. 1 + length (f x)) l
   unfolding separated
-  none_len [] e = refl
-  none_len (x ∷ l) e = absurd (omega (arith, e))
+  others_len [] = refl
+  others_len (x ∷ l) = omega (arith, length-append ((sep ∷ []) ++ f x) (separated sep f false l), sum_by-cons (λ x. 1 + length (f x)) x l, others_len l)
 
--- each of the others stands after one
-module _ {A : Type 0} (f : A → List ℕ) (sep : ℕ) (s : List A) (i : ℕ) where
-  separated_more : (d : A) → i < length s → separated sep f false (drop i s) ≡ (sep ∷ []) ++ f (get_or s i d) ++ separated sep f false (drop (i + 1) s)
+  pub parted_len : (l : List A) → sum_by (λ x. 1 + length (f x)) l - 1 ≡ length (separated sep f true l)
   unfolding separated
-  separated_more d h = rw (add-one, drop-cons s i d)
-
-  separated_end : length s ≤ i → separated sep f false (drop i s) ≡ []
-  unfolding separated
-  separated_end h = rw (drop_of_length-le s h)
-
-  -- measured
-  module _ (t : List ℕ) (n : ℕ) (known : length t ≡ n + length (separated sep f false (drop i s))) where
-    pub len_more : (d : A) → i < length s → (v : ℕ) → v ≡ length (f (get_or s i d)) → length t ≡ n + (1 + v) + length (separated sep f false (drop (i + 1) s))
-    len_more d h v e = omega (arith, ap length (separated_more d h), length-append ((sep ∷ []) ++ f (get_or s i d)) (separated sep f false (drop (i + 1) s)))
-
-    pub len_end : length s ≤ i → n ≡ length t
-    len_end h = omega (arith, ap length (separated_end h))
+  parted_len [] = refl
+  parted_len (x ∷ l) = omega (arith, length-append (f x) (separated sep f false l), sum_by-cons (λ x. 1 + length (f x)) x l, others_len l)
 
 -- a segment's text, by its kind's number
 abbrev set : List ℕ → List ℕ
@@ -107,43 +89,9 @@ pub sequence_written : (part : List ℕ) (w v : Writer) → Writes (separated 32
 unfolding segment_text
 sequence_written part w v c = (c, c)
 
--- a path has few segments, so its text is not long
-pub few_items : (ks ls ns : List ℕ) → length ks ≤ 4096 → length ls ≡ length ks → length (cut ks ls ns) * 344067 ≤ 1409298432
-few_items ks ls ns few paired =
-    omega (arith, sym (length-map (cut ks ls ns) (λ x. x.kind)) ∙ ap length (cut_kinds ks ls ns (sym paired)))
-
--- a path's text through its first segment
-module _ (left rest : List Segment) (x : Segment) (is : left ≡ x ∷ rest) where
-  pub first_item : (v : ℕ) → Measured (segment_text x.kind x.numbers) 344066 v → length (path_text true left) ≡ v + length (path_text false rest)
-  first_item v w = rw is (first_len (λ (y : Segment). segment_text y.kind y.numbers) 32 x rest v w.is)
-
-  pub first_room : (v : ℕ) → length left * 344067 ≤ 1409298432 → v ≤ 344066 → v + length rest * 344067 ≤ 1409298432
-  first_room v known small = omega (arith, ap length is)
-
--- of no segment it is empty
-pub no_items : (left : List Segment) → left ≡ [] → 0 ≡ length (path_text true left)
-unfolding separated
-no_items left e = rw e refl
-
--- a path's text through one segment more
-module _ (left rest : List Segment) (x : Segment) (is : left ≡ x ∷ rest) where
-  text_more : path_text false left ≡ (32 ∷ []) ++ segment_text x.kind x.numbers ++ path_text false rest
-  unfolding separated
-  text_more = rw is
-
-  pub item_step : (t : List ℕ) (m v : ℕ) → length t ≡ m + length (path_text false left) → Measured (segment_text x.kind x.numbers) 344066 v
-      → length t ≡ m + (1 + v) + length (path_text false rest)
-  item_step t m v known w =
-      omega (arith, w.is, ap length text_more, length-append ((32 ∷ []) ++ segment_text x.kind x.numbers) (path_text false rest))
-
-  pub item_room : (m v : ℕ) → m + length left * 344067 ≤ 1409298432 → v ≤ 344066 → m + (1 + v) + length rest * 344067 ≤ 1409298432
-  item_room m v known small = omega (arith, ap length is)
-
--- and through no more
-module _ (left : List Segment) (none : left ≡ []) where
-  pub text_done : (t : List ℕ) (m : ℕ) → length t ≡ m + length (path_text false left) → m ≡ length t
-  unfolding separated
-  text_done t m known = omega (arith, rw none at known)
+-- a path has few segments
+pub few_segments : (ks ls ns : List ℕ) → length ks ≤ 4096 → length ls ≡ length ks → length (cut ks ls ns) ≤ 4096
+few_segments ks ls ns few paired = omega (arith, sym (length-map (cut ks ls ns) (λ x. x.kind)) ∙ ap length (cut_kinds ks ls ns (sym paired)))
 
 -- what the call answers and leaves
 module _ {p : List Segment} {m : ℕ} (e : m ≡ length (path_text true p)) where

@@ -1,7 +1,7 @@
 // A path printed as the Rust prints it.
 #![tactic(auto)]
 
-ghost use Rattle.std.specs.Prelude.{ℕ, List, List, ◌≡◌, true, [], ◌∷◌, ◌++◌, ◌≤◌, length};
+ghost use Rattle.std.specs.Prelude.{ℕ, List, ◌≡◌, true, [], ◌∷◌, ◌++◌, ◌≤◌, length};
 ghost use Rattle.std.specs.Iterator.{IsFinite, Drains};
 ghost use Rattle.decimal_display.specs.Printed.{decimal};
 ghost use Rattle.output.specs.Writing.{Writes};
@@ -33,14 +33,11 @@ fn numbers_len(numbers: &[u32]) -> usize
     requires { length numbers.now ≤ 16384 }
     ensures { (sep : ℕ) → Measured (separated sep decimal true numbers.now) 344064 result }
 {
-    let Some((first, rest)) = numbers.split_first() else {
-        return 0;
-    };
-    let mut len = decimal_display::decimal_len(u64::from(*first));
-    for number in rest {
-        len += 1 + decimal_display::decimal_len(u64::from(*number));
-    }
-    len
+    numbers
+        .iter()
+        .map(|number| 1 + decimal_display::decimal_len(u64::from(*number)))
+        .sum::<usize>()
+        .saturating_sub(1)
 }
 
 // Each item as `write` writes it, with the separator between each two.
@@ -101,15 +98,10 @@ fn write_segment(segment: Segment, w: &mut Writer)
 fn path_len(path: AsPath) -> usize
     ensures { result ≡ length (path_text true (segments_in path.entry)) }
 {
-    let mut segments = path.segments();
-    let Some(first) = segments.next() else {
-        return 0;
-    };
-    let mut len = segment_len(first);
-    for segment in segments {
-        len += 1 + segment_len(segment);
-    }
-    len
+    path.segments()
+        .map(|segment| 1 + segment_len(segment))
+        .sum::<usize>()
+        .saturating_sub(1)
 }
 
 fn write_path(path: AsPath, w: &mut Writer)

@@ -1,20 +1,15 @@
-use Rattle.std.proofs.Common.{rules, arith, ap, ◌≡◌, length, slice_index_or}
+use Rattle.std.proofs.Common.{rules, arith, ℕ, ◌≡◌, ◌<◌, ◌≤◌, ◌+◌, ◌∙◌, length, slice_index_or}
+use Rattle.std.specs.List.{sum_by}
+use Rattle.std.proofs.lemmas.List.Sums.{sum_by-le}
 use Rattle.decimal_display.specs.Printed.{decimal}
-use Rattle.aspath_display.proofs.Text.{first_len, none_len, len_more, len_end}
+use Rattle.decimal_display.proofs.Printed.{digits_most}
+use Rattle.aspath_display.proofs.Text.{parted_len}
 use Rattle.aspath_display.proofs.numbers_len.Goals as goal
 
-pub returns-in_default : goal.returns-in_default
-returns-in_default c = λ sep. record { is = none_len decimal sep _ c.in_default.ensures.cases; small = omega arith }
-
-pub loop-number-init : goal.loop-number-init
-loop-number-init c =
-    let e : c.decimal_len-len.result ≡ length (decimal c.in-Some.first.now) = search rules in
-    (omega (arith, c.decimal_len-len.ensures.1), λ sep. rw c.in-Some.ensures.cases.0 (first_len decimal sep _ _ _ e))
-
-pub loop-number-preserved : goal.loop-number-preserved
-loop-number-preserved c =
-    let e : c.decimal_len.result ≡ length (decimal (slice_index_or c.in-Some.rest.now c.loop-number.number-index 0)) = search rules in
-    (omega (arith, c.decimal_len.ensures.1, c.loop-number.invariant.0), λ sep. len_more decimal sep _ _ _ _ (c.loop-number.invariant.1 sep) 0 c.loop-number-test.true _ e)
-
 pub returns : goal.returns
-returns c = λ sep. record { is = len_end decimal sep _ _ _ _ (c.loop-number.invariant.1 sep) c.loop-number-test.false; small = omega (arith, c.loop-number.invariant.0, ap length c.in-Some.ensures.cases.0) }
+returns c = λ sep.
+    let all = c.args.numbers.now in
+    let sum : c.sum.result ≡ sum_by (λ x. 1 + length (decimal x)) all = search rules in
+    let digits : (k d : ℕ) → k < length all → 1 + length (decimal (slice_index_or all k d)) ≤ 21 =
+    λ k d h. let below : slice_index_or all k d < 4294967296 = search rules in omega (arith, digits_most 9 (slice_index_or all k d) (omega (arith, below))) in
+    record { is = c.saturating_sub.ensures ∙ rw sum (parted_len decimal sep all); small = omega (arith, c.saturating_sub.ensures, sum_by-le (λ x. 1 + length (decimal x)) 21 all digits, sum, c.requires) }

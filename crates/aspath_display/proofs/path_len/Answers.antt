@@ -1,25 +1,23 @@
-use Rattle.std.proofs.Common.{◌∙◌, sym, ap}
-use Rattle.aspath.specs.Segments.{segments_left}
-use Rattle.aspath_display.proofs.Text.{few_items, first_item, no_items, first_room, item_step, item_room, text_done}
+use Rattle.std.proofs.Common.{rules, arith, ℕ, List, ◌+◌, ◌∙◌, length}
+use Rattle.std.proofs.lemmas.Iterator.{YieldsList-from_map}
+use Rattle.std.proofs.lemmas.Iterator.Consumers.{YieldsList-at, YieldsList-from_first, sum_by_from_yields_List}
+use Rattle.std.proofs.lemmas.Iterator.Adapters.{fits_from_length, at_most_from_yields_List}
+use borrow.Author.Tests.{tests}
+use Rattle.aspath.specs.Record.{Segment}
+use Rattle.aspath.specs.Segments.{segment_of, segments_left, segments_in}
+use Rattle.aspath_display.specs.Display.{segment_text}
+use Rattle.aspath_display.proofs.Text.{parted_len, few_segments}
 use Rattle.aspath_display.proofs.path_len.Goals as goal
 
-pub returns-in_default : goal.returns-in_default
-returns-in_default c = no_items _ (sym c.segments-segments.ensures ∙ c.in_default.ensures.steps.0)
-
-pub loop-segment-init : goal.loop-segment-init
-loop-segment-init c =
+pub sum-requires-clause-fits : goal.sum-requires-clause-fits
+sum-requires-clause-fits c =
     let path = c.args.path in
-    let rest = ap segments_left c.into_iter-segment-iterator.ensures.into_iter_gives in
-    let all = sym c.segments-segments.ensures ∙ c.in-Some.ensures.steps in (
-      rw rest (first_room _ _ _ all _ (few_items path.kinds.now path.lengths.now path.numbers.now path.few_segments path.paired) c.segment_len-len.ensures.small),
-      rw rest (first_item _ _ _ all _ c.segment_len-len.ensures),
-    )
-
-pub loop-segment-preserved : goal.loop-segment-preserved
-loop-segment-preserved c = (
-  item_room _ _ _ c.in-Some-segment.ensures.steps _ _ c.loop-segment.invariant.0 c.segment_len.ensures.small,
-  item_step _ _ _ c.in-Some-segment.ensures.steps _ _ _ c.loop-segment.invariant.1 c.segment_len.ensures,
-)
+    fits_from_length _ _ 4096 _ (at_most_from_yields_List (YieldsList-at c.map.ensures.source (YieldsList-from_first segment_of segments_left (segments_in path) c.segments.ensures)) (few_segments path.kinds.now path.lengths.now path.numbers.now path.few_segments path.paired))
+    c.map.ensures.closure (omega arith) (λ x r q k. search (rules, tests))
 
 pub returns : goal.returns
-returns c = text_done _ c.in-None.ensures.steps.0 _ _ c.loop-segment.invariant.1
+returns c =
+    let text : Segment → List ℕ = λ x. segment_text x.kind x.numbers in
+    c.saturating_sub.ensures ∙ rw (sum_by_from_yields_List (λ x. 1 + length (text x)) (segments_in c.args.path) c.map.result _ c.sum.ensures.ran
+    (YieldsList-from_map _ (λ x. 1 + length (text x)) (YieldsList-at c.map.ensures.source (YieldsList-from_first segment_of segments_left (segments_in c.args.path) c.segments.ensures)) c.map.ensures.closure (λ x r q k. search (rules, tests))))
+    (parted_len text 32 (segments_in c.args.path))
