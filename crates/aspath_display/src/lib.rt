@@ -47,17 +47,15 @@ fn write_parted<I: Iterator + Drop, F: Fn(I::Item, &mut Writer)>(
     write: F,
     w: &mut Writer,
 )
-    requires ends { I.can_next items × IsFinite (I.remaining items) }
-    requires calls { F.IsAlwaysCallable write }
+    requires { I.can_next items × IsFinite (I.remaining items) × F.IsAlwaysCallable write }
     ensures { (text : I.Item → List ℕ) → WritesEach (F.post write) text → (xs : List I.Item) × Drains I.next_gives items xs × Writes (separated sep text true xs) w.old w.new }
 {
-    let Some(first) = items.next() else {
-        return;
-    };
-    write(first, w);
-    for item in items {
-        w.byte(sep);
-        write(item, w);
+    if let Some(first) = items.next() {
+        write(first, w);
+        for item in items {
+            w.byte(sep);
+            write(item, w);
+        }
     }
 }
 

@@ -11,8 +11,8 @@ loop-item-init g c = λ text writes. none_written text _ false _
 pub loop-item-preserved : goal.loop-item-preserved
 loop-item-preserved g c = λ text writes. one_more_written text _ _ _ (c.loop-item.invariant text writes) c.byte.ensures (writes _ _ _ c.write-in-loop-item.ensures)
 
-pub returns : goal.returns
-returns g c = λ text writes. (
+pub returns-in-None : goal.returns-in-None
+returns-in-None g c = λ text writes. (
   c.in-Some.first ∷ c.loop-item.yielded,
   (_, (_, (_, c.in-Some.ensures.steps, rw c.into_iter-item-iterator.ensures.into_iter_gives at c.loop-item.yielded_by), c.in-None.ensures.steps)),
   first_written text _ _ _ (writes _ _ _ c.write.ensures) (c.loop-item.invariant text writes),
