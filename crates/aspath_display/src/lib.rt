@@ -27,9 +27,9 @@ impl From<Spoilt> for DisplayError {
     }
 }
 
+// Each number with a separator after it, less the last one's.
 // Stays two, measure and write, as the pairs below: one walk over a trait that a writer and a count
-// of bytes implement was written out, and takes 23 lines more than the pairs do.
-// Each number with a separator behind it, less the last one's.
+// of bytes implement was written out, and takes 23 lines more than the pairs did.
 fn numbers_len(numbers: &[u32]) -> usize
     requires { length numbers.now ≤ 16384 }
     ensures { (sep : ℕ) → Measured (separated sep decimal true numbers.now) 344064 result }
