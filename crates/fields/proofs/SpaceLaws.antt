@@ -1,12 +1,12 @@
 -- Laws of spaces: a text of spaces alone, and spaces behind a text, as the loops meet them and as
 -- trimming does.
-use Rattle.std.proofs.Common.{◌≡◌, ℕ, zero, suc, ◌+◌, ◌-◌, ◌*◌, ◌/◌, ◌≤◌, Option, Some, None, is_some, is_none, Bool, true, false, cond, not, ◌&&◌, List, [], ◌∷◌, ◌++◌, length, get_or, take, drop, sym, refl, ap, ◌∙◌, append_assoc, append-nil, arith, length-append, length-drop, take-append-drop, take_all, take_at, eqb-true, le-leb}
+use Rattle.std.proofs.Common.{◌≡◌, ℕ, ◌+◌, ◌-◌, ◌*◌, ◌/◌, ◌≤◌, Option, Some, None, is_some, is_none, Bool, true, false, cond, not, ◌&&◌, List, [], ◌∷◌, ◌++◌, length, get_or, take, drop, sym, refl, ap, ◌∙◌, append_assoc, append-nil, arith, length-append, length-drop, take-append-drop, take_all, take_at, eqb-true, le-leb}
 use Rattle.std.specs.List.{position, position_from}
 use mathlib.Core.List.{flatten}
 use Rattle.scan.proofs.ListLaws.{flatten_chunks}
 use Rattle.std.specs.Simd.{first_chunks}
 use Rattle.std.proofs.lemmas.Iterator.Adapters.{position_from-zero}
-use lib.Seq.{get_or_at, take-add}
+use lib.Seq.{get_or_at}
 use Rattle.utf8.specs.Utf8.{all, within}
 use Rattle.utf8.proofs.TestLaws.{both}
 use Rattle.utf8.proofs.ListLaws.{all_append}

@@ -1,18 +1,18 @@
 -- Laws of readable text, and of ASCII as its loop meets it.
 use mathlib.Core.Path.{◌≡◌, refl, sym, ap, ◌∙◌}
 use mathlib.Core.List.{List, [], ◌∷◌, ◌++◌, flatten}
-use mathlib.Core.Bool.{Bool, true, false, not, ◌&&◌, and-false}
+use mathlib.Core.Bool.{Bool, true, false, ◌&&◌}
 use Prim.Native.Nat.{ℕ, ◌-◌, ◌*◌, ◌/◌, ◌≤◌, ◌<◌}
 use native.Mathlib.Omega.{arith}
 use lib.Dec.{ltb}
 use lib.ListN.{length, take, drop, length-drop}
 use lib.Seq.{take_all, take-take}
-use borrow.Author.Tests.{leb-true, not-true, not-false}
+use borrow.Author.Tests.{leb-true}
 use Rattle.std.specs.Simd.{first_chunks}
 use Rattle.scan.proofs.ListLaws.{flatten_chunks}
 use Rattle.utf8.specs.Utf8.{is_one, char_len, piece_len, chars_from, chars, is_char, all, readable}
 use Rattle.utf8.proofs.TestLaws.{both}
-use Rattle.utf8.proofs.ListLaws.{all_append, all_parts, all_more, all_split}
+use Rattle.utf8.proofs.ListLaws.{all_append, all_parts, all_split}
 use Rattle.utf8.proofs.CharLaws.{Begins, char_one}
 use Rattle.utf8.proofs.CharsLaws.{chars_more, char_piece, chars_append, chars_of_front, chars_of_rest}
 
