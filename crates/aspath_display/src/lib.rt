@@ -42,6 +42,8 @@ fn numbers_len(numbers: &[u32]) -> usize
 }
 
 // Each item as `write` writes it, with the separator between each two.
+// Stays apart from ip_display's write_groups: a function for both would be public, and one that
+// takes a closure asks that it may be called.
 fn write_parted<I: Iterator + Drop, F: Fn(I::Item, &mut Writer)>(
     mut items: I,
     sep: u8,
