@@ -1,7 +1,7 @@
 -- Laws of texts behind separators, and of a path's text.
 use mathlib.Core.Path.{◌≡◌, refl, sym, ap, ◌∙◌}
 use mathlib.Core.List.{List, [], ◌∷◌, ◌++◌, map}
-use mathlib.Core.Bool.{Bool, true, false}
+use mathlib.Core.Bool.{Bool, true, false, ◌&&◌}
 use Prim.Native.Nat.{ℕ, ◌+◌, ◌-◌, ◌≤◌, ◌<◌}
 use native.Mathlib.Omega.{arith}
 use lib.ListN.{length, length-append, length-map}
@@ -19,27 +19,34 @@ use Rattle.output.proofs.Output.{kept}
 use Rattle.std.specs.Prelude.{Option, Some, Ok, Err}
 use Rattle.aspath.specs.Record.{Segment, cut}
 use Rattle.aspath.proofs.Record.{cut_kinds}
-use Rattle.aspath_display.specs.Display.{separated, segment_text, path_text, Measured, Displayed}
+use Rattle.aspath_display.specs.Display.{lead, separated, segment_text, path_text, Measured, Displayed}
 use Rattle.aspath_display.specs.declared.DisplayError.TheVariants.{TooShort}
 
--- texts written: none, one more behind the separator, and the first
+-- whether a list has no element
+abbrev pub is_none : {A : Type 0} → List A → Bool
+is_none [] = true
+is_none (x ∷ l) = false
+
+pub pushed_is_some : {A : Type 0} (l : List A) (x : A) → false ≡ is_none (l ++ x ∷ [])
+pushed_is_some [] x = refl
+pushed_is_some (y ∷ l) x = refl
+
+-- texts written: none, and one more, behind the separator if it is not the first
 module _ {A : Type 0} (f : A → List ℕ) (sep : ℕ) where
-  pub none_written : (first : Bool) (w : Writer) → Writes (separated sep f first []) w w
+  pub none_written : (w : Writer) → Writes (separated sep f true []) w w
   unfolding separated
-  none_written first w = nothing w
+  none_written w = nothing w
 
-  separated_push : (l : List A) (x : A) → separated sep f false (l ++ x ∷ []) ≡ separated sep f false l ++ (sep ∷ []) ++ f x
+  separated_push : (first : Bool) (l : List A) (x : A) → separated sep f first (l ++ x ∷ []) ≡ separated sep f first l ++ lead (first && is_none l) sep ++ f x
   unfolding separated
-  separated_push [] x = append-nil _
-  separated_push (y ∷ l) x = rw (separated_push l x) (simp append_assoc)
+  separated_push true [] x = append-nil _
+  separated_push false [] x = append-nil _
+  separated_push true (y ∷ l) x = rw (separated_push false l x) (simp append_assoc)
+  separated_push false (y ∷ l) x = rw (separated_push false l x) (simp append_assoc)
 
-  pub one_more_written : (l : List A) (x : A) {w₀ w v v₁ : Writer} → Writes (separated sep f false l) w₀ w → Writes (sep ∷ []) w v → Writes (f x) v v₁
-      → Writes (separated sep f false (l ++ x ∷ [])) w₀ v₁
-  one_more_written l x known b c = rw (separated_push l x) (then (then known b) c)
-
-  pub first_written : (x : A) (l : List A) {w₀ w v : Writer} → Writes (f x) w₀ w → Writes (separated sep f false l) w v → Writes (separated sep f true (x ∷ l)) w₀ v
-  unfolding separated
-  first_written x l c d = then c d
+  pub one_more_written : (l : List A) (x : A) {w₀ w v v₁ : Writer} → Writes (separated sep f true l) w₀ w → Writes (lead (is_none l) sep) w v → Writes (f x) v v₁
+      → Writes (separated sep f true (l ++ x ∷ [])) w₀ v₁
+  one_more_written l x known b c = rw (separated_push true l x) (then (then known b) c)
 
   -- where the items show others
   separated_map : {X : Type 0} (v : X → A) (first : Bool) (l : List X) → separated sep (λ x. f (v x)) first l ≡ separated sep f first (map v l)

@@ -7,4 +7,4 @@ use Rattle.aspath_display.proofs.write_numbers.Goals as goal
 
 pub returns : goal.returns
 returns c =
-    all_written decimal _ (YieldsList-from_copied (YieldsList-from_slice _ cc)) (c.write_parted.ensures decimal (λ x v w p. search rules))
+    all_written decimal _ (YieldsList-from_copied (YieldsList-from_slice _ cc)) (c.write_each.ensures decimal (λ x v w p. search rules))

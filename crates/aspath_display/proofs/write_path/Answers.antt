@@ -8,4 +8,4 @@ use Rattle.aspath_display.proofs.write_path.Goals as goal
 pub returns : goal.returns
 returns c =
     all_written (λ x. segment_text x.kind x.numbers) _ (YieldsList-from_first segment_of segments_left _ c.segments.ensures)
-    (c.write_parted.ensures (λ x. segment_text (kind_number x.kind) x.numbers.now) (λ x v w p. search rules))
+    (c.write_each.ensures (λ x. segment_text (kind_number x.kind) x.numbers.now) (λ x v w p. search rules))
