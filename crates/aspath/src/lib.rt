@@ -90,12 +90,15 @@ impl TryFrom<u8> for SegmentKind {
     }
 }
 
+// No early exit: the compiler makes vector comparisons of the loop.
 fn any_kind_over(kinds: &[u8]) -> bool
     ensures { result ≡ any (ltb 3) kinds.now }
 {
-    kinds
-        .iter()
-        .any(|kind| SegmentKind::try_from(*kind).is_err())
+    let mut over = false;
+    for kind in kinds {
+        over |= SegmentKind::try_from(*kind).is_err();
+    }
+    over
 }
 
 fn sum_lengths(lengths: &[u32]) -> u64

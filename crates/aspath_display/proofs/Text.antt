@@ -5,7 +5,7 @@ use mathlib.Core.Bool.{Bool, true, false, ◌&&◌}
 use Prim.Native.Nat.{ℕ, ◌+◌, ◌-◌, ◌≤◌, ◌<◌}
 use native.Mathlib.Omega.{arith}
 use lib.ListN.{length, length-append, length-map}
-use borrow.Author.Tests.{le-leb, lt-leb}
+use borrow.Author.Tests.{le-leb, lt-leb, ne_eqb}
 use Rattle.std.specs.Iterator.{Drains}
 use Rattle.std.proofs.lemmas.Iterator.{YieldsList, items_from_drains}
 use Rattle.std.specs.List.{sum_by}
@@ -95,6 +95,18 @@ pub sequence_written : (part : List ℕ) (w v : Writer) → Writes (separated 32
     → Writes (segment_text 0 part) w v × Writes (segment_text 2 part) w v
 unfolding segment_text
 sequence_written part w v c = (c, c)
+
+-- of any kind that is no set's
+module _ (kind : ℕ) (part : List ℕ) (not_set : kind ≡ 1 → ⊥) (not_confed : kind ≡ 3 → ⊥) where
+  no_set : segment_text kind part ≡ separated 32 decimal true part
+  unfolding segment_text
+  no_set = simp (ne_eqb kind 1 not_set, ne_eqb kind 3 not_confed)
+
+  pub plain_len : (n : ℕ) → Measured (separated 32 decimal true part) 344064 n → Measured (segment_text kind part) 344066 n
+  plain_len n w = rw no_set (record { is = w.is; small = omega (arith, w.small) })
+
+  pub plain_written : (w v : Writer) → Writes (separated 32 decimal true part) w v → Writes (segment_text kind part) w v
+  plain_written w v c = rw no_set c
 
 -- a path has few segments
 pub few_segments : (ks ls ns : List ℕ) → length ks ≤ 4096 → length ls ≡ length ks → length (cut ks ls ns) ≤ 4096

@@ -78,6 +78,14 @@ module _ (P Q : Option (List Segment)) (s : Spoilt) (e : Err s ≡ counts dedup_
 -- for the refusals of both
 pub ruleset refusals = (second_refused, read_path, first_refused)
 
+-- where the second has a path, a layout of both is the first's
+pub both_after : (P Q : Option (List Segment)) → (Q ≡ None → ⊥) → (layout : List Segment → List ℕ) (n : ℕ) (old new : List ℕ)
+    → new ≡ after layout P n old → new ≡ after layout (both P Q) n old
+unfolding both
+both_after (Some p) (Some q) h layout n old new e = e
+both_after (Some p) None h layout n old new e = absurd (h refl)
+both_after None Q h layout n old new e = e
+
 -- no record is spoilt: each list is as `dedup_coalesce` left it
 pub both_left : (P Q : Option (List Segment)) (q : List Segment) → Some q ≡ Q → (old new : LentPath)
     → LeftAs dedup_coalesce P old new → LeftAs dedup_coalesce (both P Q) old new
@@ -98,7 +106,7 @@ module _ (layout : List Segment → List ℕ) (P : Option (List Segment)) (p : L
   unfolding after
   placed = e ∙ rw (← h)
 
-  there : m ≤ length new
+  pub there : m ≤ length new
   there =
       omega (
         arith,
@@ -108,7 +116,7 @@ module _ (layout : List Segment → List ℕ) (P : Option (List Segment)) (p : L
         ap length placed,
       )
 
-  taken : take m new ≡ layout p
+  pub taken : take m new ≡ layout p
   taken =
       rw placed
       (ap (take m) (append_assoc (layout p) (replicate (c - length (layout p)) 0) (drop c old))
@@ -125,13 +133,13 @@ module _ (v : Counts) (old new : LentPath) (value : Ok v ≡ counts dedup_coales
   is_counts : v ≡ counts_of (dedup_coalesce p)
   is_counts = (counted (path_lent old) v value).2
 
-  kinds_fit : length (kinds_of (dedup_coalesce p)) ≡ v.segments
+  pub kinds_fit : length (kinds_of (dedup_coalesce p)) ≡ v.segments
   kinds_fit = length-map (dedup_coalesce p) (λ x. x.kind) ∙ sym (ap (λ (w : Counts). w.segments) is_counts)
 
-  lengths_fit : length (lengths_of (dedup_coalesce p)) ≡ v.segments
+  pub lengths_fit : length (lengths_of (dedup_coalesce p)) ≡ v.segments
   lengths_fit = length-map (dedup_coalesce p) (λ x. length x.numbers) ∙ sym (ap (λ (w : Counts). w.segments) is_counts)
 
-  numbers_fit : length (numbers_of (dedup_coalesce p)) ≡ v.numbers
+  pub numbers_fit : length (numbers_of (dedup_coalesce p)) ≡ v.numbers
   numbers_fit = sym (ap (λ (w : Counts). w.numbers) is_counts)
 
   -- the parts that are read of the lists
@@ -142,13 +150,13 @@ module _ (v : Counts) (old new : LentPath) (value : Ok v ≡ counts dedup_coales
     there (λ p. numbers_of (dedup_coalesce p)) _ p is_path _ _ _ _ e.numbers numbers_fit,
   )
 
-  kinds_taken : take v.segments new.kinds.now ≡ kinds_of (dedup_coalesce p)
+  pub kinds_taken : take v.segments new.kinds.now ≡ kinds_of (dedup_coalesce p)
   kinds_taken = taken (λ p. kinds_of (dedup_coalesce p)) _ p is_path _ _ _ _ e.kinds kinds_fit
 
-  lengths_taken : take v.segments new.lengths.now ≡ lengths_of (dedup_coalesce p)
+  pub lengths_taken : take v.segments new.lengths.now ≡ lengths_of (dedup_coalesce p)
   lengths_taken = taken (λ p. lengths_of (dedup_coalesce p)) _ p is_path _ _ _ _ e.lengths lengths_fit
 
-  numbers_taken : take v.numbers new.numbers.now ≡ numbers_of (dedup_coalesce p)
+  pub numbers_taken : take v.numbers new.numbers.now ≡ numbers_of (dedup_coalesce p)
   numbers_taken = taken (λ p. numbers_of (dedup_coalesce p)) _ p is_path _ _ _ _ e.numbers numbers_fit
 
 -- two paths and the counts of their normal forms

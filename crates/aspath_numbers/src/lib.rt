@@ -26,10 +26,17 @@ fn is_single(segment: Segment) -> bool
     }
 }
 
+// The last segment, from the lists' ends: the others are not cut.
 fn last_segment<'a>(path: AsPath<'a>) -> Option<Segment<'a>>
     ensures { option_map segment_of result ≡ slice_get (segments_in path.entry) (length (segments_in path.entry) - 1) }
 {
-    path.segments().last()
+    let kind = path.kinds.last()?;
+    let length = path.lengths.last()?;
+    let (_others, numbers) = path.numbers.split_at(path.numbers.len() - *length as usize);
+    Some(Segment {
+        kind: SegmentKind::try_from(*kind).unwrap(),
+        numbers,
+    })
 }
 
 fn origin(path: AsPath) -> Option<u32>

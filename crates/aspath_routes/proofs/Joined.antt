@@ -36,7 +36,7 @@ after_short d a (b ∷ s) = go (d && eqb b a) (after_short d b s)
     go true h = omega arith
     go false h = omega arith
 
-runs_short : (d : Bool) (s : List ℕ) → length (runs d s) ≤ length s
+pub runs_short : (d : Bool) (s : List ℕ) → length (runs d s) ≤ length s
 unfolding runs
 runs_short d [] = omega arith
 runs_short d (a ∷ s) = omega (arith, after_short d a s)

@@ -89,6 +89,18 @@ module _ (s : List ℕ) (i : ℕ) (w : Option (ℕ × ℕ)) (q : w ≡ digits_at
           }
       go false h g = let z : ◌≡◌ {A = ℕ} 0 1 = cc in absurd (omega arith)
 
+  -- and they end no sooner than they begin
+  pub digits_from : i ≤ e
+  unfolding digits_at
+  digits_from = go (leb (length d) 9) (sym q ∙ f)
+    where
+      d : List ℕ
+      d = leading (drop i s)
+
+      go : (z : Bool) → cond {A = Option (ℕ × ℕ)} z (Some (or_zero (behind 0 d), i + length d)) None ≡ Some (v, e) → i ≤ e
+      go true g = let y : i + length d ≡ e = ap (λ (w : Option (ℕ × ℕ)). (unwrap_or w (0, 0)).1) g in omega arith
+      go false g = let z : ◌≡◌ {A = ℕ} 0 1 = cc in absurd (omega arith)
+
 -- a run that is met digit by digit
 pub run_starts : (t : List ℕ) → Run t 0 0
 unfolding behind

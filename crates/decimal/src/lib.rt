@@ -12,29 +12,56 @@ const DIGITS_THAT_FIT: usize = 19;
 fn with_digit(v: u64, digit: u64) -> Option<u64>
     ensures { SomeIff result (v * 10 + digit < 2 ^ 64) (v * 10 + digit) }
 {
-    v.checked_mul(10)?.checked_add(digit)
+    // Compared first: a product that is tested for overflow takes longer at each digit.
+    if u64::MAX / 10 < v {
+        return None;
+    }
+    (v * 10).checked_add(digit)
 }
 
-// A number with no sign. Only the digits behind those that surely fit are tested for overflow.
+// A number with no sign, of digits that fit.
+fn few_digits(s: &[u8]) -> Option<u64>
+    requires { (length s.now ≡ 0 → ⊥) × (length s.now ≤ 19) }
+    ensures { result ≡ read_digits s.now }
+{
+    let mut v = 0;
+    for b in s {
+        if !b.is_ascii_digit() {
+            return None;
+        }
+        v = v * 10 + u64::from(*b - b'0');
+    }
+    Some(v)
+}
+
+// A number with no sign, of any digits.
+fn many_digits(s: &[u8]) -> Option<u64>
+    requires { length s.now ≡ 0 → ⊥ }
+    ensures { result ≡ read_digits s.now }
+{
+    let mut v = 0;
+    for b in s {
+        if !b.is_ascii_digit() {
+            return None;
+        }
+        v = with_digit(v, u64::from(*b - b'0'))?;
+    }
+    Some(v)
+}
+
+// A number with no sign. Digits that surely fit are read by a loop of their own, which tests none
+// for overflow: one loop that told them apart took twice as long on texts of many digits.
 pub fn read_digits(s: &[u8]) -> Option<u64>
     ensures { result ≡ read_digits s.now }
 {
     if s.is_empty() {
         return None;
     }
-    let mut v = 0;
-    for (i, b) in s.iter().enumerate() {
-        if !b.is_ascii_digit() {
-            return None;
-        }
-        let digit = u64::from(*b - b'0');
-        if i < DIGITS_THAT_FIT {
-            v = v * 10 + digit;
-        } else {
-            v = with_digit(v, digit)?;
-        }
+    if s.len() <= DIGITS_THAT_FIT {
+        few_digits(s)
+    } else {
+        many_digits(s)
     }
-    Some(v)
 }
 
 pub fn read_u64(s: &[u8]) -> Option<u64>

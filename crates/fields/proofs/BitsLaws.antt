@@ -26,7 +26,7 @@ module _ (s : List ℕ) (at : ℕ) (h : 3 ≤ length s - at) (e : get_or s at 0 
   da : (is_digit (get_or s (at + 1) 0) ≡ true) × (a ≡ get_or s (at + 1) 0 - 48)
   da = digit_known (get_or s (at + 1) 0) a ea la
 
-  bits_one : BitsAt s at (at + 2) a
+  pub bits_one : BitsAt s at (at + 2) a
   bits_one =
       let k : at + 2 - 1 ≡ at + 1 = omega arith in
       let z : at + 2 ≡ at + 1 + 1 = omega arith in
@@ -36,7 +36,7 @@ module _ (s : List ℕ) (at : ℕ) (h : 3 ≤ length s - at) (e : get_or s at 0 
         value = rw (z, slice_one s (at + 1) (omega arith), da.1) (length_one (get_or s (at + 1) 0) da.0);
       }
 
-  bits_two : (b : ℕ) → (b + 48) % 256 ≡ get_or s (at + 2) 0 → b ≤ 9 → a * 10 + b ≤ 32 → BitsAt s at (at + 3) (a * 10 + b)
+  pub bits_two : (b : ℕ) → (b + 48) % 256 ≡ get_or s (at + 2) 0 → b ≤ 9 → a * 10 + b ≤ 32 → BitsAt s at (at + 3) (a * 10 + b)
   bits_two b eb lb l =
       let db : (is_digit (get_or s (at + 2) 0) ≡ true) × (b ≡ get_or s (at + 2) 0 - 48) = digit_known (get_or s (at + 2) 0) b eb lb in
       let k : at + 3 - 1 ≡ at + 2 = omega arith in

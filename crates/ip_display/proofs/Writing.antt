@@ -169,13 +169,17 @@ run_within n (g ∷ gs) h = go (leb n (zeros (g ∷ gs))) refl (run_within n gs)
 pub first_within : (gs : List ℕ) → first_run (longest gs) gs + longest gs ≤ length gs
 first_within gs = run_within (longest gs) gs (le_refl (longest gs))
 
-pub run_found : (g : List ℕ) (i len start : ℕ) → length g ≡ 8 → i ≤ 0 → len ≡ longest (drop i g) → start ≡ i + first_run len (drop i g)
-    → (start ≡ first_run (longest g) g) × (len ≡ longest g) × (start + len ≤ 8)
-run_found g i len start e h hl hs =
+-- at the front the run is the groups' longest, of any groups, and of eight it ends within them
+pub run_whole : (g : List ℕ) (i len start : ℕ) → i ≤ 0 → len ≡ longest (drop i g) → start ≡ i + first_run len (drop i g)
+    → (start ≡ first_run (longest g) g) × (len ≡ longest g)
+run_whole g i len start h hl hs =
     let z : i ≡ 0 = omega arith in
     let k : len ≡ longest g = rw z at hl in
-    let f : start ≡ 0 + first_run len g = rw z at hs in
-    let first : start ≡ first_run (longest g) g = f ∙ zero-add (first_run len g) ∙ rw k in (first, k, omega (arith, first, k, first_within g))
+    let f : start ≡ 0 + first_run len g = rw z at hs in (f ∙ zero-add (first_run len g) ∙ rw k, k)
+
+pub run_found : (g : List ℕ) (i len start : ℕ) → length g ≡ 8 → i ≤ 0 → len ≡ longest (drop i g) → start ≡ i + first_run len (drop i g)
+    → (start ≡ first_run (longest g) g) × (len ≡ longest g) × (start + len ≤ 8)
+run_found g i len start e h hl hs = let k = run_whole g i len start h hl hs in (k.0, k.1, omega (arith, e, k.0, k.1, first_within g))
 
 -- the whole text of groups
 module _ (g : List ℕ) (k n : ℕ) (hk : k ≡ first_run (longest g) g) (hn : n ≡ longest g) where

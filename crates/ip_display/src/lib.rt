@@ -21,19 +21,28 @@ fn hex_byte(d: u16) -> u8
     }
 }
 
-// A group's four digits without the zeros in front.
+// A group's four digits without the zeros in front. Fewer than four are written byte by byte: made
+// into an array of two or three, they would be stored one by one and read together at once.
 fn write_hex(g: u16, w: &mut Writer)
     ensures { Writes (hex g) w.old w.new }
 {
-    let a = hex_byte(g / 4096);
-    let b = hex_byte(g / 256 % 16);
-    let c = hex_byte(g / 16 % 16);
-    let d = hex_byte(g % 16);
     match g {
-        0..16 => w.byte(d),
-        16..256 => w.bytes(&[c, d]),
-        256..4096 => w.bytes(&[b, c, d]),
-        _ => w.bytes(&[a, b, c, d]),
+        0..16 => w.byte(hex_byte(g)),
+        16..256 => {
+            w.byte(hex_byte(g / 16));
+            w.byte(hex_byte(g % 16));
+        }
+        256..4096 => {
+            w.byte(hex_byte(g / 256));
+            w.byte(hex_byte(g / 16 % 16));
+            w.byte(hex_byte(g % 16));
+        }
+        _ => w.bytes(&[
+            hex_byte(g / 4096),
+            hex_byte(g / 256 % 16),
+            hex_byte(g / 16 % 16),
+            hex_byte(g % 16),
+        ]),
     }
 }
 

@@ -37,6 +37,16 @@ before_short c (b ∷ s) = go (eqb b c) (before_short c s)
     go true h = omega arith
     go false h = omega arith
 
+-- it is a front of the text
+pub before_take : (c : ℕ) (s : List ℕ) → take (length (before c s)) s ≡ before c s
+unfolding before
+before_take c [] = refl
+before_take c (b ∷ s) = go (eqb b c) (before_take c s)
+  where
+    go : (t : Bool) → take (length (before c s)) s ≡ before c s → take (length (cond t [] (b ∷ before c s))) (b ∷ s) ≡ cond t [] (b ∷ before c s)
+    go true h = refl
+    go false h = rw h
+
 -- the parts: the first one, and those behind its c
 pub parts_last : (c : ℕ) (s : List ℕ) → length s ≤ length (before c s) → parts c s ≡ before c s ∷ []
 unfolding split_by onto before

@@ -115,19 +115,28 @@ module _ (p : List ℕ) (some_digit : length p ≡ 0 → ⊥) (few : length p �
         go None = refl
 
 -- at most four digits fit
-module _ (p : List ℕ) (few : length p ≤ 4) (i v : ℕ) (h : v < 16 ^ i) (more : i < length p) where
-  pub hex_room : Fits w16 (v * 16)
-  hex_room = record { fits = let z : v < 16 ^ 3 = number_room {m = 3} (omega arith) h (omega arith) in omega arith }
+module _ (p : List ℕ) (few : length p ≤ 4) (i v : ℕ) (h : v < 16 ^ i) where
+  pub hex_grows : (d : ℕ) → d < 16 → v * 16 + d < 16 ^ (i + 1)
+  hex_grows d l = rw add-one (number_grows 16 v d i h l)
 
-  module _ (d : ℕ) (l : d < 16) where
-    pub hex_grows : v * 16 + d < 16 ^ (i + 1)
-    hex_grows = rw add-one (number_grows 16 v d i h l)
+  module _ (more : i < length p) where
+    pub hex_room : Fits w16 (v * 16)
+    hex_room = record { fits = let z : v < 16 ^ 3 = number_room {m = 3} (omega arith) h (omega arith) in omega arith }
 
-    pub hex_room_for : Fits w16 (v * 16 + d)
-    hex_room_for = record { fits = number_room {m = 4} (omega arith) hex_grows (omega arith) }
+    pub hex_room_for : (d : ℕ) → d < 16 → Fits w16 (v * 16 + d)
+    hex_room_for d l = record { fits = number_room {m = 4} (omega arith) (hex_grows d l) (omega arith) }
 
 -- one group more
 module _ (r : Groups) (g : ℕ) where
+  -- it goes to the upper half while there are fewer than four
+  pub pushed_upper : r.n < 4 → record { n = r.n + 1; upper = shifted r.upper g; lower = r.lower } ≡ push r g
+  unfolding push
+  pushed_upper h = simp (lt-ltb r.n 4 h)
+
+  pub pushed_lower : 4 ≤ r.n → record { n = r.n + 1; upper = r.upper; lower = shifted r.lower g } ≡ push r g
+  unfolding push
+  pushed_lower h = simp (le-ltb r.n 4 h)
+
   pub push_full : 7 < r.n → None ≡ with_groups r (Some (g ∷ []))
   push_full h = simp (lt-leb (r.n + 1) 8 (omega arith))
 
@@ -137,12 +146,10 @@ module _ (r : Groups) (g : ℕ) where
     push_some = simp (le-leb (r.n + 1) 8 (omega arith))
 
     pub push_upper : r.n < 4 → Some (record { n = r.n + 1; upper = shifted r.upper g; lower = r.lower }) ≡ with_groups r (Some (g ∷ []))
-    unfolding push
-    push_upper h = ap (λ (x : Groups). Some x) (simp (lt-ltb r.n 4 h)) ∙ push_some
+    push_upper h = ap (λ (x : Groups). Some x) (pushed_upper h) ∙ push_some
 
     pub push_lower : 4 ≤ r.n → Some (record { n = r.n + 1; upper = r.upper; lower = shifted r.lower g }) ≡ with_groups r (Some (g ∷ []))
-    unfolding push
-    push_lower h = ap (λ (x : Groups). Some x) (simp (le-ltb r.n 4 h)) ∙ push_some
+    push_lower h = ap (λ (x : Groups). Some x) (pushed_lower h) ∙ push_some
 
 -- the first "::" is where the search finds it
 one_colon : (s : List ℕ) → equal (take 1 s) (58 ∷ []) ≡ eqb (get_or s 0 0) 58

@@ -379,7 +379,7 @@ module _ (l r : List ℕ) (x : Option Groups) (hx : x ≡ with_groups no_groups 
               let u : (push_all a (replicate (8 - b.n - a.n) 0)).n ≡ a.n + (8 - b.n - a.n) = push_all_n a (replicate (8 - b.n - a.n) 0) ∙ rw length-replicate in
               rw hz (omega arith)
 
-          fill_le : z.n ≤ 8
+          pub fill_le : z.n ≤ 8
           fill_le = omega (arith, fill_count)
 
           module _ (w : Option Groups) (hw : w ≡ with_groups z (side true r)) where

@@ -31,17 +31,21 @@ unfolding bytes_of
 put_start w out₀ = refl
 
 module _ (w out₀ out : List ℕ) (i : ℕ) (at : out ≡ bytes_of (take i w) ++ drop (8 * i) out₀) where
-  pub put_turn : (ys : List ℕ) → i < length w → get_or w i 0 < 2 ^ 64 → ys ≡ to_le_bytes w64 (get_or w i 0)
+  -- of any number, a word's or not
+  pub put_step : (ys : List ℕ) → i < length w → ys ≡ little_endian (get_or w i 0)
       → take (8 * i) out ++ (ys ++ drop (8 * i + 8 - 8 * i) (drop (8 * i) out)) ≡ bytes_of (take (i + 1) w) ++ drop (8 * (i + 1)) out₀
-  put_turn ys h fits e =
+  put_step ys h e =
       let p = bytes_of (take i w) in
       let n : length p ≡ 8 * i = length_bytes_of (take i w) ∙ ap (λ (j : ℕ). 8 * j) (length-take-le i w (omega arith)) in
       let k : 8 * i + 8 - 8 * i ≡ 8 = omega arith in
       let q : 8 * i + 8 ≡ 8 * (i + 1) = omega arith in
-      let word : ys ≡ little_endian (get_or w i 0) = e ∙ written_le (get_or w i 0) fits in
       let grown : bytes_of (take (i + 1) w) ≡ p ++ little_endian (get_or w i 0) = more w i h in
-      rw (k, at, take_at p (drop (8 * i) out₀) (8 * i) n, drop_at p (drop (8 * i) out₀) (8 * i) n, drop-drop 8 (8 * i) out₀, q, word, grown)
+      rw (k, at, take_at p (drop (8 * i) out₀) (8 * i) n, drop_at p (drop (8 * i) out₀) (8 * i) n, drop-drop 8 (8 * i) out₀, q, e, grown)
       (sym (append_assoc p (little_endian (get_or w i 0)) (drop (8 * (i + 1)) out₀)))
+
+  pub put_turn : (ys : List ℕ) → i < length w → get_or w i 0 < 2 ^ 64 → ys ≡ to_le_bytes w64 (get_or w i 0)
+      → take (8 * i) out ++ (ys ++ drop (8 * i + 8 - 8 * i) (drop (8 * i) out)) ≡ bytes_of (take (i + 1) w) ++ drop (8 * (i + 1)) out₀
+  put_turn ys h fits e = put_step ys h (e ∙ written_le (get_or w i 0) fits)
 
 module _ (w out₀ : List ℕ) where
   pub put_all : (out : List ℕ) (i : ℕ) → out ≡ bytes_of (take i w) ++ drop (8 * i) out₀ → i ≤ length w → length w ≤ i → length w ≤ length out₀ / 8
@@ -81,10 +85,17 @@ pub get_start : (b : List ℕ) → ◌≡◌ {A = List ℕ} [] (words_in 0 b)
 unfolding words_in
 get_start b = refl
 
+-- of any bytes, too few for a word or not
+pub get_step : (b w : List ℕ) (i v : ℕ) → take i w ≡ words_in i b → i < length w → v ≡ number (take (8 * i + 8 - 8 * i) (drop (8 * i) b))
+    → take (i + 1) (set w i v) ≡ words_in (i + 1) b
+get_step b w i v at h e =
+    let k : 8 * i + 8 - 8 * i ≡ 8 = omega arith in
+    rw (add-one i, take-suc-set w i v h, at, e, k) (sym (words_more i b))
+
 pub get_turn : (b w : List ℕ) (parts : List (List ℕ)) (i v : ℕ) → take i w ≡ words_in i b → i < length w → i < length b / 8
     → parts ≡ first_chunks 8 (length b / 8) b → v ≡ from_le_bytes w64 (get_or parts i []) → take (i + 1) (set w i v) ≡ words_in (i + 1) b
 get_turn b w parts i v at h room p e =
     let part : get_or parts i [] ≡ take 8 (drop (8 * i) b) = rw p (part_at (length b / 8) i b [] room) in
     let size : length (take 8 (drop (8 * i) b)) ≡ 8 = simp (length-take, length-drop) (omega arith) in
     let word : v ≡ number (take 8 (drop (8 * i) b)) = e ∙ rw part (read_le (take 8 (drop (8 * i) b)) size) in
-    rw (add-one i, take-suc-set w i v h, at, word) (sym (words_more i b))
+    let k : 8 * i + 8 - 8 * i ≡ 8 = omega arith in get_step b w i v at h (rw k word)

@@ -115,7 +115,7 @@ pub last_here : (c : ℕ) (s : List ℕ) (i : ℕ) → 0 < i → i ≤ length s 
 last_here c s i p h f e = let z : suc (i - 1) ≡ i = omega arith in last_at c s (i - 1) (omega arith) e (rw z f)
 
 -- a list without c has no last place of it
-last_none : (c : ℕ) (s : List ℕ) → ((j : ℕ) → j < length s → get_or s j 0 ≡ c → ⊥) → last_place c s ≡ length s
+pub last_none : (c : ℕ) (s : List ℕ) → ((j : ℕ) → j < length s → get_or s j 0 ≡ c → ⊥) → last_place c s ≡ length s
 unfolding last_place
 last_none c [] h = refl
 last_none c (b ∷ s) h =

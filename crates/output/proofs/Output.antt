@@ -157,10 +157,10 @@ byte_written b out at h =
     }
 
 -- the first n bytes copied, as many as there is room for
-pub bytes_written : (t out ys : List ℕ) (at n k : ℕ) → at < length out → n ≡ min (length t) (length out - at) → k ≡ n → ys ≡ take n t
+pub bytes_written : (t out ys : List ℕ) (at n k : ℕ) → n ≡ min (length t) (length out - at) → k ≡ n → ys ≡ take n t
     → Written t out at (put_mid at k out ys) (at + n)
 unfolding overwrite room
-bytes_written t out ys at n k h e z f =
+bytes_written t out ys at n k e z f =
     record { list = rw (z, f, drop-drop, e) (sym (append_assoc (take at out) _ _)); place = rw e }
 
 -- a call that measured its text and refuses

@@ -31,7 +31,7 @@ one_byte b w h = record { same_list = refl; written = output.byte_written b w.ou
 
 pub first_bytes : (t ys : List ℕ) (w : Writer) (n k : ℕ) → w.at < length w.out.now → n ≡ min (length t) (length w.out.now - w.at) → k ≡ n → ys ≡ take n t
     → Writes t w (record { out = set_vals (put_mid w.at k w.out.now ys) w.out; at = w.at + n })
-first_bytes t ys w n k h e z f = record { same_list = refl; written = output.bytes_written t w.out.now ys w.at n k h e z f }
+first_bytes t ys w n k h e z f = record { same_list = refl; written = output.bytes_written t w.out.now ys w.at n k e z f }
 
 -- Writing in a loop. The text was to stand in the writer w₀; the writer is now w, and the rest is left to write.
 pub record Left (text : List ℕ) (w₀ : Writer) (rest : List ℕ) (w : Writer) : Type 0 where

@@ -39,9 +39,9 @@ use Rattle.psv.specs.Line.{type_text, time_text, asn_text, origin_text, number_t
 number_le : (n : ℕ) → Fits w32 n → length (decimal n) ≤ 20
 number_le n f = digits_most 19 n (omega (arith, f.fits))
 
-type_le : (b : Bool) → length (type_text b) ≤ 1
-type_le true = omega arith
-type_le false = omega arith
+pub type_length : (b : Bool) → length (type_text b) ≡ 1
+type_length true = refl
+type_length false = refl
 
 time_le : (t : Float) → T (fits binary64 t) → length (time_text (second_of t)) ≤ 21
 unfolding time_text
@@ -87,9 +87,9 @@ pub front_le : (announce : Bool) (t : Float) (ip : IpAddr) (number : Asn) → T 
     → length (front_text announce t ip number) ≤ 90
 unfolding front_text
 front_le announce t ip number f g =
-    simp length-append (omega (arith, type_le announce, time_le t f, address_le ip, number_le number.0 g))
+    simp length-append (omega (arith, type_length announce, time_le t f, address_le ip, number_le number.0 g))
 
-between_le : (p : NetworkPrefix) → Fits w8 p.len → length (between_text p) ≤ 68
+pub between_le : (p : NetworkPrefix) → Fits w8 p.len → length (between_text p) ≤ 68
 unfolding between_text
 between_le p f = simp length-append (omega (arith, prefix_le p f))
 

@@ -152,7 +152,7 @@ module _ (start path : List ℕ) (a : Attributes) (out part : List ℕ) (last en
       let y = part_put out part room text n (known (Ok n) f) new w v in
       (leb-true (length (asns_of path)) 16384 (sym (many_places path 16384 few)), y.0, y.1)
 
-  copied_short : (q : Result ℕ PutError) → Told text (take 65536 out) part q → result_ok q ≡ None → part ++ drop 65536 out ≡ out
+  pub copied_short : (q : Result ℕ PutError) → Told text (take 65536 out) part q → result_ok q ≡ None → part ++ drop 65536 out ≡ out
   copied_short (Ok n) h f = absurd (none-some n (sym f))
   copied_short (Err TooShort) h f = whole_again out part room h.1
 

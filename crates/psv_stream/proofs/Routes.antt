@@ -199,7 +199,7 @@ text_keeps f start n m k b (prefix.Valid p) l g = none_started start n m k l f b
 
 -- the front printed
 module _ (σ : State) (m : Remembered) (out : List ℕ) where
-  front_put : (r : Result ℕ PutError) (new : List ℕ) → (r ≡ answer (front_of σ) out) × (new ≡ front (front_of σ) out) → (n : ℕ) → r ≡ Ok n → Starts (front_of σ) new n m 0
+  pub front_put : (r : Result ℕ PutError) (new : List ℕ) → (r ≡ answer (front_of σ) out) × (new ≡ front (front_of σ) out) → (n : ℕ) → r ≡ Ok n → Starts (front_of σ) new n m 0
   front_put r new told n e =
       let z : Told (front_of σ) out new (Ok n) = rw e at (told_by (front_of σ) out new r told) in
       record {

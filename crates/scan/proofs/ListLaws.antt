@@ -1,4 +1,5 @@
 -- Laws of lists cut by a test of their elements.
+use borrow.Author.Tests.{not-false}
 use Rattle.std.specs.Prelude.{Option, Some}
 use Rattle.std.specs.Option.{unwrap_or}
 use Rattle.std.specs.List.{list_all, position, position_from}
@@ -6,14 +7,14 @@ use Rattle.std.specs.Simd.{first_chunks}
 use Rattle.std.proofs.lemmas.Iterator.Adapters.{position_from-zero}
 use Prim.Native.Nat.{ℕ, zero, suc, ◌+◌, ◌-◌, ◌*◌, ◌≤◌, ◌<◌}
 use mathlib.Core.Path.{◌≡◌, refl, sym, ap, ◌∙◌}
-use mathlib.Core.Bool.{Bool, true, false, cond, not, ◌&&◌, and_assoc, and-true, false≢true}
+use mathlib.Core.Bool.{Bool, true, false, cond, not, ◌&&◌, ◌||◌, and_assoc, and-true, or_assoc, or-false, false≢true}
 use mathlib.Core.List.{List, [], ◌∷◌, ◌++◌, flatten, nil≢cons}
 use native.Mathlib.Omega.{arith}
 use native.Mathlib.Nat.{add-zero, zero-mul}
 use native.Mathlib.Numerals.{add-one}
 use lib.ListN.{length, get_or, take, drop, length-append, length-drop, drop_of_length-le}
-use lib.Seq.{take_all, take_at, take-add, drop_at, drop-cons, drop-drop, take-suc}
-use Rattle.scan.specs.Lists.{onto, non_empty, all, take_while, drop_while, end_while, split_by, tokens_by}
+use lib.Seq.{take_all, take_at, take-add, drop_at, drop-cons, drop-drop, take-suc, get_or-drop}
+use Rattle.scan.specs.Lists.{onto, non_empty, all, any_of, take_while, drop_while, end_while, split_by, tokens_by}
 
 pub flatten_onto : {A : Type 0} (x : A) (l : List (List A)) → flatten (onto x l) ≡ x ∷ flatten l
 unfolding onto flatten
@@ -143,6 +144,40 @@ module _ {A : Type 0} (p : A → Bool) where
       go true e ih = let h : length (take_while p s) < n = ih e in omega arith
       go false e ih = omega arith
 
+  any_of_append : (a b : List A) → any_of p (a ++ b) ≡ (any_of p a || any_of p b)
+  unfolding any_of
+  any_of_append [] b = refl
+  any_of_append (x ∷ a) b = rw (any_of_append a b) (sym (or_assoc (p x) (any_of p a) (any_of p b)))
+
+  -- whether one of the next elements passes
+  pub any_of_next : (s : List A) (i k : ℕ) (d : A) → i + k < length s → any_of p (take (k + 1) (drop i s)) ≡ (any_of p (take k (drop i s)) || p (get_or s (i + k) d))
+  unfolding any_of
+  any_of_next s i k d h =
+      let l : k < length (drop i s) = rw length-drop (omega arith) in
+      rw (add-one, take-suc (drop i s) k d l, any_of_append, get_or-drop) (rw or-false)
+
+  -- where one of the first n passes, fewer stand before the first that does
+  pub any_of_before : (n : ℕ) (s : List A) → any_of p (take n s) ≡ true → length (take_while (λ x. not (p x)) s) < n
+  unfolding any_of take_while
+  any_of_before zero s e = absurd (false≢true e)
+  any_of_before (suc n) [] e = absurd (false≢true e)
+  any_of_before (suc n) (x ∷ s) e = go (p x) e (any_of_before n s)
+    where
+      go : (z : Bool) → (z || any_of p (take n s)) ≡ true → (any_of p (take n s) ≡ true → length (take_while (λ x. not (p x)) s) < n)
+          → length (cond (not z) (x ∷ take_while (λ x. not (p x)) s) []) < suc n
+      go true e ih = omega arith
+      go false e ih = let h : length (take_while (λ x. not (p x)) s) < n = ih e in omega arith
+
+  -- an element passes where not all fail
+  pub any_of_all : (s : List A) → any_of p s ≡ not (all (λ x. not (p x)) s)
+  unfolding any_of all
+  any_of_all [] = refl
+  any_of_all (x ∷ s) = go (p x) (any_of_all s)
+    where
+      go : (z : Bool) → any_of p s ≡ not (all (λ x. not (p x)) s) → (z || any_of p s) ≡ not (not z && all (λ x. not (p x)) s)
+      go true e = refl
+      go false e = e
+
   -- what is behind it starts with an element that does not pass
   pub drop_while_head : (s : List A) (x : A) (t : List A) → drop_while p s ≡ x ∷ t → p x ≡ false
   unfolding drop_while
@@ -230,6 +265,12 @@ module _ {A : Type 0} (p : A → Bool) where
       go true e f ih =
           let k : i + suc n ≡ i + 1 + n = omega arith in
           scan_on p s i i refl d l e ∙ ih f ∙ rw k
+
+-- the same by the test that ends the scan
+pub end_while_over_any : {A : Type 0} (p : A → Bool) (s : List A) (n i : ℕ) (d : A) → i + n ≤ length s → any_of p (take n (drop i s)) ≡ false
+    → end_while (λ x. not (p x)) s i ≡ end_while (λ x. not (p x)) s (i + n)
+end_while_over_any p s n i d h f =
+    end_while_over (λ x. not (p x)) s n i d h (not-false (all (λ x. not (p x)) (take n (drop i s))) (sym (any_of_all p (take n (drop i s))) ∙ f))
 
 -- what a loop over all elements uses
 pub ruleset passed_laws = (pass_none, pass_next, pass_all)

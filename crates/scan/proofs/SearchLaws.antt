@@ -1,5 +1,6 @@
 -- Laws of byte strings compared and searched for.
 use Rattle.std.specs.Prelude.{Option, Some, None, MatchOption}
+use Rattle.std.specs.Bool.{Decides, one_answer}
 use Prim.Native.Nat.{ℕ, zero, suc, ◌+◌, ◌≤◌, ◌<◌}
 use mathlib.Core.Path.{◌≡◌, refl, sym, ap, ◌∙◌}
 use mathlib.Core.Bool.{Bool, true, false, cond, ◌&&◌}
@@ -59,6 +60,18 @@ starts_with_split s p e = sym (take-append-drop (length p) s) ∙ rw (equal_path
 
 pub starts_with_length : (s p : List ℕ) → starts_with s p ≡ true → length p ≤ length s
 starts_with_length s p e = omega (arith, simp length-append at (ap length (starts_with_split s p e)))
+
+-- a text starts with none that is longer
+pub too_short : (s p : List ℕ) → length s < length p → starts_with s p ≡ false
+too_short s p h = go (starts_with s p) refl
+  where
+    go : (z : Bool) → starts_with s p ≡ z → z ≡ false
+    go true e = absurd (omega (arith, starts_with_length s p e))
+    go false e = refl
+
+-- an answer that tells whether the front of s is p
+pub starts_with_told : (s p : List ℕ) (r : Bool) → Decides r (take (length p) s ≡ p) → r ≡ starts_with s p
+starts_with_told s p r d = one_answer r (starts_with s p) d (equal_path (take (length p) s) p, λ e. rw e (equal_refl p))
 
 -- the first place at which p stands, as a search that goes from place to place finds it
 first_from : (i : ℕ) (s p : List ℕ) (n : ℕ) → n ≤ length s → starts_with (drop n s) p ≡ true

@@ -149,11 +149,20 @@ pub fn starts_with(s: &[u8], p: &[u8]) -> bool
     s.starts_with(p)
 }
 
+// starts_with for a text that most often begins otherwise: it ends at the first byte that differs,
+// where a comparison of slices looks at all of short ones.
+#[inline(always)]
+fn begins(s: &[u8], p: &[u8]) -> bool
+    ensures { result ≡ starts_with s.now p.now }
+{
+    p.len() <= s.len() && s[..p.len()].iter().zip(p).all(|(x, y)| x == y)
+}
+
 // Whether the pattern stands at the place.
 fn stands_at(s: &[u8], at: usize, p: &[u8]) -> bool
     ensures { result ≡ (leb at (length s.now) && starts_with (drop at s.now) p.now) }
 {
-    at <= s.len() && starts_with(&s[at..], p)
+    at <= s.len() && begins(&s[at..], p)
 }
 
 // The empty pattern stands at the place 0.

@@ -257,10 +257,10 @@ module _ (t : List ℕ) (k : ℕ) (e : k ≡ white_len (chars t)) where
   start_more n = skip_more is_space t (some n) (is_space_lem n).0 ∙ ap (λ m. trim_start (drop m t)) (sym (is_space_lem n).1)
 
   -- ink_len
-  ink_none : (k ≡ 0 → ⊥) → 0 ≡ piece_len t - white_len (chars t)
+  pub ink_none : (k ≡ 0 → ⊥) → 0 ≡ piece_len t - white_len (chars t)
   ink_none n = omega (arith, e, (is_space_lem n).1)
 
-  ink_some : (m : ℕ) → k ≡ 0 → m ≡ piece_len t → m ≡ piece_len t - white_len (chars t)
+  pub ink_some : (m : ℕ) → k ≡ 0 → m ≡ piece_len t → m ≡ piece_len t - white_len (chars t)
   ink_some m z f = omega (arith, e)
 
   -- token_end
@@ -389,7 +389,7 @@ module _ (s : List ℕ) (k : ℕ) (l : List ℕ) (e : l ≡ drop (length s - k) 
       let z : drop (piece_len l) l ≡ [] = drop_of_length-le l {i = piece_len l} (omega (arith, r.size, short)) in
       f ∙ ap (λ m. p ∷ m) (sym r.rest ∙ ap chars z)
 
-  end_some : k ≡ white_len (chars l) → 0 < k → k ≡ white_len (reverse (chars s))
+  pub end_some : k ≡ white_len (chars l) → 0 < k → k ≡ white_len (reverse (chars s))
   unfolding white_len chars_from
   end_some f h = go (chars l) refl f
     where
@@ -412,7 +412,7 @@ module _ (s : List ℕ) (k : ℕ) (l : List ℕ) (e : l ≡ drop (length s - k) 
 last_byte : (s : List ℕ) → 0 < length s → drop (length s - 1) s ≡ get_or s (length s - 1) 0 ∷ []
 last_byte s h = drop-cons s (length s - 1) 0 (omega arith) ∙ ap (λ l. get_or s (length s - 1) 0 ∷ l) (drop_of_length-le s {i = suc (length s - 1)} (omega arith))
 
-end_ascii : (s l : List ℕ) → (length s ≡ 0 → ⊥) → get_or s (length s - 1) 0 < 0x80 → l ≡ drop (length s - 1) s → white_len (chars l) ≡ white_len (reverse (chars s))
+pub end_ascii : (s l : List ℕ) → (length s ≡ 0 → ⊥) → get_or s (length s - 1) 0 < 0x80 → l ≡ drop (length s - 1) s → white_len (chars l) ≡ white_len (reverse (chars s))
 unfolding white_len chars_from
 end_ascii s l n h e = go (get_or s (length s - 1) 0) h (e ∙ last_byte s (omega arith))
   where

@@ -1,9 +1,10 @@
-use Rattle.std.proofs.Common.{◌∙◌, rules, ltb}
-use Rattle.std.proofs.lemmas.Iterator.{YieldsList-from_slice}
-use Rattle.std.proofs.lemmas.Iterator.Search.{any_from_yields_List}
+use Rattle.std.proofs.Common.{rules, ltb}
 use borrow.Author.Tests.{tests}
-use Rattle.aspath.proofs.Lists.{any_is}
+use Rattle.aspath.proofs.Lists.{over_none, over_next}
 use Rattle.aspath.proofs.any_kind_over.Goals as goal
 
-pub returns : goal.returns
-returns c = any_from_yields_List (ltb 3) _ _ _ c.any.ensures.ran (YieldsList-from_slice c.args.kinds.now cc) (λ x b q k. search (rules, tests)) ∙ any_is (ltb 3) c.args.kinds.now
+pub loop-kind-init : goal.loop-kind-init
+loop-kind-init c = over_none (ltb 3)
+
+pub loop-kind-preserved : goal.loop-kind-preserved
+loop-kind-preserved c = over_next (ltb 3) c.args.kinds.now c.loop-kind.kind-index c.loop-kind.over c.loop-kind.invariant 0 _ c.loop-kind-test.true (search (rules, tests))
