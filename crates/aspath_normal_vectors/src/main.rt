@@ -10,19 +10,24 @@
 use aspath::{PathRecord, Spoilt};
 use aspath_equivalence::Equivalence;
 use aspath_normal::{Counts, LentPath};
-use cases::{Answer, InHex, Marked, Program};
+use cases::{Answer, Program};
 use path_cases::Lists;
 use std::io;
 use std::io::Write;
 
-fn put_counts(counts: Counts, out: &mut Answer) -> io::Result<()> {
-    write!(out, "{} {}", counts.segments, counts.numbers)
+fn put_counts(counts: Counts, out: &mut Answer) {
+    cases::put_number(counts.segments as u64, out);
+    cases::put_text(b" ", out);
+    cases::put_number(counts.numbers as u64, out);
 }
 
 // 10 is 01's number of a spoilt record.
 fn put_normalised(answer: Result<Counts, Spoilt>, out: &mut Answer) -> io::Result<()> {
     match answer {
-        Ok(counts) => put_counts(counts, out),
+        Ok(counts) => {
+            put_counts(counts, out);
+            Ok(())
+        }
         Err(Spoilt) => write!(out, "refused 10"),
     }
 }
@@ -31,9 +36,10 @@ fn put_equivalence(answer: Result<Equivalence, Spoilt>, out: &mut Answer) -> io:
     match answer {
         Ok(found) => {
             write!(out, "{} ", cases::yes_no(found.equivalent))?;
-            put_counts(found.first, out)?;
-            write!(out, " ")?;
-            put_counts(found.second, out)
+            put_counts(found.first, out);
+            cases::put_text(b" ", out);
+            put_counts(found.second, out);
+            Ok(())
         }
         Err(Spoilt) => write!(out, "refused 10"),
     }
@@ -52,30 +58,31 @@ fn lent<'a>(lists: &'a mut Lists, line: &[u8], counts: [usize; 2]) -> LentPath<'
     }
 }
 
-fn put_record(mark: &str, record: PathRecord, out: &mut Answer) -> io::Result<()> {
-    write!(
-        out,
-        " {} {} {}",
-        InHex(record.kinds),
-        Marked(mark, record.lengths),
-        Marked(mark, record.numbers)
-    )
+fn put_record(mark: &str, record: PathRecord, out: &mut Answer) {
+    let mark = mark.as_bytes();
+    cases::put_text(b" ", out);
+    cases::put_hex(record.kinds, out);
+    cases::put_text(b" ", out);
+    cases::put_numbers(mark, record.lengths, out);
+    cases::put_text(b" ", out);
+    cases::put_numbers(mark, record.numbers, out);
 }
 
 // What a call answers of the record, and what it leaves in its lists.
 fn answer_call<F: Fn(&mut LentPath) -> Result<Counts, Spoilt>>(
     call: F,
     line: &[u8],
-    mut lists: Lists,
+    lists: &mut Lists,
     mark: &str,
     out: &mut Answer,
 ) -> io::Result<()>
     requires { F.IsAlwaysCallable call }
 {
-    let mut record = lent(&mut lists, line, [4, 5]);
+    let mut record = lent(lists, line, [4, 5]);
     let answer = call(&mut record);
     put_normalised(answer, out)?;
-    put_record(mark, record.record(), out)
+    put_record(mark, record.record(), out);
+    Ok(())
 }
 
 // It is lent the numbers shared, for it moves none.
@@ -88,10 +95,11 @@ fn coalesce(lent: &mut LentPath) -> Result<Counts, Spoilt> {
 }
 
 fn answer_all(line: &[u8], out: &mut Answer) -> io::Result<()> {
-    answer_call(coalesce, line, path_cases::load_digits(line), "", out)?;
+    let mut lists = path_cases::load_digits(line);
+    answer_call(coalesce, line, &mut lists, "", out)?;
     write!(out, "|")?;
-    let lists = path_cases::load_digits(line);
-    answer_call(aspath_normal::dedup_coalesce, line, lists, "", out)
+    let mut lists = path_cases::load_digits(line);
+    answer_call(aspath_normal::dedup_coalesce, line, &mut lists, "", out)
 }
 
 fn answer_equivalent(line: &[u8], out: &mut Answer) -> io::Result<()> {
@@ -101,8 +109,9 @@ fn answer_equivalent(line: &[u8], out: &mut Answer) -> io::Result<()> {
     let mut second = lent(&mut lists2, line, [9, 10]);
     let answer = aspath_equivalence::has_equivalent_routing(&mut first, &mut second);
     put_equivalence(answer, out)?;
-    put_record(",", first.record(), out)?;
-    put_record(",", second.record(), out)
+    put_record(",", first.record(), out);
+    put_record(",", second.record(), out);
+    Ok(())
 }
 
 struct NormalCases;
@@ -115,10 +124,11 @@ impl Program for NormalCases {
         } else if name.starts_with(b"equivalent") {
             answer_equivalent(line, out)
         } else if name.starts_with(b"coalesce") {
-            answer_call(coalesce, line, path_cases::load(line, 1), ",", out)
+            let mut lists = path_cases::load(line, 1);
+            answer_call(coalesce, line, &mut lists, ",", out)
         } else if name.starts_with(b"dedup_coalesce") {
-            let lists = path_cases::load(line, 1);
-            answer_call(aspath_normal::dedup_coalesce, line, lists, ",", out)
+            let mut lists = path_cases::load(line, 1);
+            answer_call(aspath_normal::dedup_coalesce, line, &mut lists, ",", out)
         } else {
             Ok(())
         }

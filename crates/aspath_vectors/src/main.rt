@@ -171,7 +171,9 @@ fn all_reading(record: PathRecord, out: &mut Answer) -> io::Result<()> {
 }
 
 fn put_written(places: &[u32], n: usize, out: &mut Answer) -> io::Result<()> {
-    write!(out, " {}", Marked("", cases::first(places, n)))
+    cases::put_text(b" ", out);
+    cases::put_numbers(b"", cases::first(places, n), out);
+    Ok(())
 }
 
 fn all_vec(
@@ -228,7 +230,9 @@ fn all_written(record: PathRecord, places: &mut [u32], out: &mut Answer) -> io::
     for number in 0..routes_asked(record.num_route_variations()) {
         all_route(record, number, places, out)?;
     }
-    write!(out, "|{}", Marked("", places))
+    cases::put_text(b"|", out);
+    cases::put_numbers(b"", places, out);
+    Ok(())
 }
 
 fn all(

@@ -14,6 +14,7 @@ ghost use Rattle.std.specs.Io.{ReadsAtMost};
 ghost use Rattle.scan.specs.Search.{equal};
 ghost use Rattle.cases.specs.Cases.{part_of, shown_or, float_of, answer_of, counted};
 
+use output::Writer;
 use std::fs::File;
 use std::io::{Cursor, Read, Write};
 use std::rt::Files;
@@ -22,7 +23,7 @@ use std::{fmt, io};
 // The most bytes of a list.
 pub const LIST: usize = 2097152;
 
-// The most bytes of an answer.
+// The room for an answer.
 const ANSWER: usize = 65536;
 
 // Room for a list of cases.
@@ -161,10 +162,73 @@ pub struct Marked<'a, T>(pub &'a str, pub &'a [T]);
 impl<T: fmt::Display> fmt::Display for Marked<'_, T> {
     fn fmt<W: fmt::Write>(&self, f: &mut fmt::Formatter<W>) -> fmt::Result {
         for value in self.1 {
-            write!(f, "{}{value}", self.0)?;
+            if !self.0.is_empty() {
+                f.write_str(self.0)?;
+            }
+            value.fmt(f)?;
         }
         Ok(())
     }
+}
+
+// What follows is for answers of many numbers: `write!` goes through the formatter for each, and so
+// took most of a program's time.
+
+// What f writes at the end of an answer, as far as there is room.
+fn put_by<F: FnOnce(&mut Writer)>(f: F, out: &mut Answer)
+    requires { F.IsAlwaysCallable f }
+{
+    let at = out.position() as usize;
+    let mut w = Writer {
+        out: out.get_mut(),
+        at,
+    };
+    f(&mut w);
+    let at = w.at;
+    out.set_position(at as u64);
+}
+
+pub fn put_text(s: &[u8], out: &mut Answer) {
+    put_by(|w| w.bytes(s), out);
+}
+
+pub fn put_number(n: u64, out: &mut Answer) {
+    put_by(|w| decimal_display::write_u64(n, w), out);
+}
+
+// The values of a list, each after the mark.
+pub fn put_numbers(mark: &[u8], values: &[u32], out: &mut Answer) {
+    put_by(
+        |w| {
+            for value in values {
+                w.bytes(mark);
+                decimal_display::write_u32(*value, w);
+            }
+        },
+        out,
+    );
+}
+
+fn hex_digit(n: u8) -> u8
+    requires { n < 16 }
+{
+    if n < 10 { b'0' + n } else { b'a' - 10 + n }
+}
+
+// Bytes in hexadecimal, '-' for none.
+pub fn put_hex(s: &[u8], out: &mut Answer) {
+    if s.is_empty() {
+        return put_text(b"-", out);
+    }
+    put_by(
+        |w| {
+            for b in s {
+                w.byte(hex_digit(*b / 16));
+                w.byte(hex_digit(*b % 16));
+            }
+        },
+        out,
+    );
 }
 
 // A value, or the text where there is none.
@@ -261,10 +325,16 @@ pub type Answer<'a> = Cursor<&'a mut [u8]>;
 
 // What a test program answers to a line of its list.
 pub trait Program {
+    // The most bytes that are read of its list, and that are kept of an answer.
+    const LIST_LEN: usize = LIST;
+
+    const ANSWER_LEN: usize = 4096;
+
     fn answer(&self, line: &[u8], out: &mut Answer) -> io::Result<()>;
 }
 
-// The program's answer to a line, judged.
+// The program's answer to a line, judged. It is written as far as there is room: one that is longer
+// is held to the list as it is cut, and prints so.
 fn answered<P: Program>(
     rt: &impl Print,
     program: &P,
@@ -273,7 +343,7 @@ fn answered<P: Program>(
     out: &mut [u8],
 ) -> io::Result<Tally> {
     let mut answer = Cursor::new(&mut *out);
-    program.answer(case, &mut answer)?;
+    let _ = program.answer(case, &mut answer);
     let n = answer.position() as usize;
     judged(rt, t, case, part(out, 0, n))
 }
@@ -281,18 +351,19 @@ fn answered<P: Program>(
 // Holds the program's answers to the list in a file, and prints a line for each group.
 pub fn run<R: Files + Print, P: Program>(rt: &R, file: &str, program: &P) -> io::Result<()> {
     let mut list = list_buffer();
-    let n = read_file(rt, file, &mut list)?;
+    let n = read_file(rt, file, first_mut(&mut list, P::LIST_LEN))?;
     let mut out = [0; ANSWER];
     let mut name: &[u8] = &[];
     let mut t = Tally::default();
     let lines = list[..n].split(|b| *b == b'\n');
     for case in lines.filter(|line| is_case(line)) {
-        if field(case, 0) != name {
+        let group = field(case, 0);
+        if group != name {
             report(rt, t, name)?;
-            name = field(case, 0);
+            name = group;
             t = Tally::default();
         }
-        t = answered(rt, program, t, case, &mut out)?;
+        t = answered(rt, program, t, case, first_mut(&mut out, P::ANSWER_LEN))?;
     }
     report(rt, t, name)
 }

@@ -78,9 +78,13 @@ impl Program for DecimalCases {
             }
             b"difference_len" => write!(out, "{}", decimal_display::difference_len(a, b as u64)),
             _ => {
+                // A list of more places is not there, and nothing is answered.
                 let mut room = [b'.'; 64];
+                let Some(list) = room.get_mut(..b) else {
+                    return Ok(());
+                };
                 let mut w = Writer {
-                    out: cases::first_mut(&mut room, b),
+                    out: list,
                     at: cases::number(line, 3),
                 };
                 put_list(name, s, a, &mut w, out)

@@ -77,6 +77,20 @@ fn put_lengths(s: &[u8], out: &mut Answer) -> io::Result<()> {
     write!(out, "{address_len} {prefix_len}")
 }
 
+// What a call writes into a list of n places; a list of more than 64 is not there, and nothing is
+// answered.
+fn put_in_list(name: &[u8], s: &[u8], n: usize, out: &mut Answer) -> io::Result<()> {
+    let mut room = [b'.'; 64];
+    let Some(list) = room.get_mut(..n) else {
+        return Ok(());
+    };
+    match name {
+        b"put_address" => put_address(s, list, out),
+        b"put_prefix" => put_prefix(s, list, out),
+        _ => Ok(()),
+    }
+}
+
 struct NetworkCases;
 
 impl Program for NetworkCases {
@@ -84,16 +98,12 @@ impl Program for NetworkCases {
         let mut bytes = [0; 4096];
         let s = cases::hex(cases::field(line, 1), &mut bytes);
         let n = cases::number(line, 2);
-        let mut room = [b'.'; 64];
-        let list = cases::first_mut(&mut room, n);
         match cases::field(line, 0) {
             b"starred" | b"rfc4291" | b"rfc5952" | b"addr" => put_read_address(s, out),
             b"starred_prefix" | b"rfc4291_prefix" | b"prefix" => put_read_prefix(s, out),
             b"valid" => put_valid(s, n, out),
             b"lengths" => put_lengths(s, out),
-            b"put_address" => put_address(s, list, out),
-            b"put_prefix" => put_prefix(s, list, out),
-            _ => Ok(()),
+            name => put_in_list(name, s, n, out),
         }
     }
 }

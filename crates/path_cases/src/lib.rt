@@ -91,7 +91,8 @@ fn load_fields<B: Fn(&[u8], &mut [u8]) -> usize, N: Fn(&[u8], &mut [u32]) -> usi
         numbers: [0; 256],
         loaded: Loaded::default(),
     };
-    let mut s = [0; 4096];
+    // As many bytes as the numbers of a field take, and no more, since they are cleared for each.
+    let mut s = [0; 1024];
     lists.loaded.kinds = bytes(fields[0], &mut lists.kinds);
     let n = bytes(fields[1], &mut s);
     lists.loaded.lengths = byte_numbers(cases::first(&s, n), &mut lists.lengths);

@@ -22,7 +22,7 @@ fn bytes_at<const N: usize>(hex: &[u8], at: usize) -> [u8; N] {
 
 // Of 4 or of 16 bytes.
 fn address(hex: &[u8]) -> IpAddr {
-    if hex.len() == 8 {
+    if hex.len() / 2 == 4 {
         IpAddr::V4(u32::from_be_bytes(bytes_at(hex, 0)))
     } else {
         IpAddr::V6(
@@ -90,6 +90,8 @@ fn put_printed(r: Result<usize, ElementError>, bytes: &[u8], out: &mut Answer) -
 struct PsvCases;
 
 impl Program for PsvCases {
+    const ANSWER_LEN: usize = 65536;
+
     fn answer(&self, line: &[u8], out: &mut Answer) -> io::Result<()> {
         let mut room = [b'.'; 16384];
         let call = cases::field(line, 1);

@@ -69,6 +69,15 @@ impl Left<'_> {
     }
 }
 
+// The number of an answer: 0 an element, 255 End.
+pub fn number(n: Next) -> usize {
+    match n.1 {
+        Ok(Some(_)) => 0,
+        Ok(None) => 255,
+        Err(refusal) => refusal.number() as usize,
+    }
+}
+
 pub fn state_in(n: Next) -> State {
     n.0
 }
@@ -230,7 +239,7 @@ pub fn next(rt: &impl Print, b: Both, part: &[u8], base: usize, k: usize) -> io:
         plain,
         asns,
         plain_asns,
-        stopped: !matches!(got, (_, Ok(Some(_)))),
+        stopped: number(got) != 0,
         right: same_next(rt, got, &asns, want, &plain_asns)?,
     })
 }

@@ -26,6 +26,8 @@ fn put_read(answer: Option<f64>, out: &mut Answer) -> io::Result<()> {
 struct TimestampCases;
 
 impl Program for TimestampCases {
+    const LIST_LEN: usize = 1048576;
+
     fn answer(&self, line: &[u8], out: &mut Answer) -> io::Result<()> {
         match cases::field(line, 0) {
             b"bits" => {
