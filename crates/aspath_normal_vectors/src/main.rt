@@ -11,34 +11,55 @@ use aspath::{PathRecord, Spoilt};
 use aspath_equivalence::Equivalence;
 use aspath_normal::{Counts, LentPath};
 use cases::{Answer, Program};
+use output::Writer;
 use path_cases::Lists;
 use std::io;
 use std::io::Write;
 
-fn put_counts(counts: Counts, out: &mut Answer) {
-    cases::put_number(counts.segments as u64, out);
-    cases::put_text(b" ", out);
-    cases::put_number(counts.numbers as u64, out);
+// What `write` writes at the end of an answer, as far as there is room.
+// Stays in both programs that print so: a public function asks nothing of its callers, and one that
+// takes a closure asks that it may be called.
+fn put_by<F: FnOnce(&mut Writer)>(write: F, out: &mut Answer)
+    requires { F.IsAlwaysCallable write }
+{
+    let at = out.position() as usize;
+    let mut w = Writer {
+        out: out.get_mut(),
+        at,
+    };
+    write(&mut w);
+    let at = w.at;
+    out.set_position(at as u64);
+}
+
+fn write_counts(counts: Counts, w: &mut Writer) {
+    decimal_display::write_u64(counts.segments as u64, w);
+    w.byte(b' ');
+    decimal_display::write_u64(counts.numbers as u64, w);
 }
 
 // 10 is 01's number of a spoilt record.
 fn put_normalised(answer: Result<Counts, Spoilt>, out: &mut Answer) -> io::Result<()> {
     match answer {
         Ok(counts) => {
-            put_counts(counts, out);
+            put_by(|w| write_counts(counts, w), out);
             Ok(())
         }
         Err(Spoilt) => write!(out, "refused 10"),
     }
 }
 
+fn write_both(first: Counts, second: Counts, w: &mut Writer) {
+    write_counts(first, w);
+    w.byte(b' ');
+    write_counts(second, w);
+}
+
 fn put_equivalence(answer: Result<Equivalence, Spoilt>, out: &mut Answer) -> io::Result<()> {
     match answer {
         Ok(found) => {
             write!(out, "{} ", cases::yes_no(found.equivalent))?;
-            put_counts(found.first, out);
-            cases::put_text(b" ", out);
-            put_counts(found.second, out);
+            put_by(|w| write_both(found.first, found.second, w), out);
             Ok(())
         }
         Err(Spoilt) => write!(out, "refused 10"),
@@ -58,14 +79,17 @@ fn lent<'a>(lists: &'a mut Lists, line: &[u8], counts: [usize; 2]) -> LentPath<'
     }
 }
 
-fn put_record(mark: &str, record: PathRecord, out: &mut Answer) {
-    let mark = mark.as_bytes();
-    cases::put_text(b" ", out);
-    cases::put_hex(record.kinds, out);
-    cases::put_text(b" ", out);
-    cases::put_numbers(mark, record.lengths, out);
-    cases::put_text(b" ", out);
-    cases::put_numbers(mark, record.numbers, out);
+fn write_record(mark: &[u8], record: PathRecord, w: &mut Writer) {
+    w.byte(b' ');
+    cases::write_hex(record.kinds, w);
+    w.byte(b' ');
+    cases::write_numbers(mark, record.lengths, w);
+    w.byte(b' ');
+    cases::write_numbers(mark, record.numbers, w);
+}
+
+fn put_record(mark: &[u8], record: PathRecord, out: &mut Answer) {
+    put_by(|w| write_record(mark, record, w), out);
 }
 
 // What a call answers of the record, and what it leaves in its lists.
@@ -73,7 +97,7 @@ fn answer_call<F: Fn(&mut LentPath) -> Result<Counts, Spoilt>>(
     call: F,
     line: &[u8],
     lists: &mut Lists,
-    mark: &str,
+    mark: &[u8],
     out: &mut Answer,
 ) -> io::Result<()>
     requires { F.IsAlwaysCallable call }
@@ -96,10 +120,10 @@ fn coalesce(lent: &mut LentPath) -> Result<Counts, Spoilt> {
 
 fn answer_all(line: &[u8], out: &mut Answer) -> io::Result<()> {
     let mut lists = path_cases::load_digits(line);
-    answer_call(coalesce, line, &mut lists, "", out)?;
+    answer_call(coalesce, line, &mut lists, b"", out)?;
     write!(out, "|")?;
     let mut lists = path_cases::load_digits(line);
-    answer_call(aspath_normal::dedup_coalesce, line, &mut lists, "", out)
+    answer_call(aspath_normal::dedup_coalesce, line, &mut lists, b"", out)
 }
 
 fn answer_equivalent(line: &[u8], out: &mut Answer) -> io::Result<()> {
@@ -109,8 +133,8 @@ fn answer_equivalent(line: &[u8], out: &mut Answer) -> io::Result<()> {
     let mut second = lent(&mut lists2, line, [9, 10]);
     let answer = aspath_equivalence::has_equivalent_routing(&mut first, &mut second);
     put_equivalence(answer, out)?;
-    put_record(",", first.record(), out);
-    put_record(",", second.record(), out);
+    put_record(b",", first.record(), out);
+    put_record(b",", second.record(), out);
     Ok(())
 }
 
@@ -125,10 +149,10 @@ impl Program for NormalCases {
             answer_equivalent(line, out)
         } else if name.starts_with(b"coalesce") {
             let mut lists = path_cases::load(line, 1);
-            answer_call(coalesce, line, &mut lists, ",", out)
+            answer_call(coalesce, line, &mut lists, b",", out)
         } else if name.starts_with(b"dedup_coalesce") {
             let mut lists = path_cases::load(line, 1);
-            answer_call(aspath_normal::dedup_coalesce, line, &mut lists, ",", out)
+            answer_call(aspath_normal::dedup_coalesce, line, &mut lists, b",", out)
         } else {
             Ok(())
         }

@@ -14,6 +14,7 @@ use aspath::{PathRecord, Spoilt, VariationsError};
 use aspath_display::DisplayError;
 use aspath_routes::{NumbersError, RouteError};
 use cases::{Answer, InHex, Marked, Or, Program};
+use output::Writer;
 use path_cases::Lists;
 use std::io::Write;
 use std::{fmt, io};
@@ -72,6 +73,22 @@ fn put<T: fmt::Display + Drop, E: Refusal>(r: Result<T, E>, out: &mut Answer) ->
         Ok(v) => write!(out, "{v}"),
         Err(e) => write!(out, "refused {}", e.number()),
     }
+}
+
+// What `write` writes at the end of an answer, as far as there is room.
+// Stays in both programs that print so: a public function asks nothing of its callers, and one that
+// takes a closure asks that it may be called.
+fn put_by<F: FnOnce(&mut Writer)>(write: F, out: &mut Answer)
+    requires { F.IsAlwaysCallable write }
+{
+    let at = out.position() as usize;
+    let mut w = Writer {
+        out: out.get_mut(),
+        at,
+    };
+    write(&mut w);
+    let at = w.at;
+    out.set_position(at as u64);
 }
 
 fn put_option<T: fmt::Display + Drop, E: Refusal>(
@@ -170,10 +187,14 @@ fn all_reading(record: PathRecord, out: &mut Answer) -> io::Result<()> {
     all_ends(record, out)
 }
 
-fn put_written(places: &[u32], n: usize, out: &mut Answer) -> io::Result<()> {
-    cases::put_text(b" ", out);
-    cases::put_numbers(b"", cases::first(places, n), out);
-    Ok(())
+// Numbers, all of them behind the mark.
+fn write_behind(mark: u8, numbers: &[u32], w: &mut Writer) {
+    w.byte(mark);
+    cases::write_numbers(b"", numbers, w);
+}
+
+fn put_written(places: &[u32], n: usize, out: &mut Answer) {
+    put_by(|w| write_behind(b' ', cases::first(places, n), w), out);
 }
 
 fn all_vec(
@@ -188,7 +209,8 @@ fn all_vec(
     let Ok(Some(n)) = r else {
         return Ok(());
     };
-    put_written(places, n, out)
+    put_written(places, n, out);
+    Ok(())
 }
 
 fn all_shown(record: PathRecord, bytes: &mut [u8], out: &mut Answer) -> io::Result<()> {
@@ -211,7 +233,8 @@ fn all_route(
     match r {
         Ok(n) => {
             put(r, out)?;
-            put_written(places, n, out)
+            put_written(places, n, out);
+            Ok(())
         }
         Err(RouteError::NoSuchRoute) => write!(out, "-"),
         Err(_) => put(r, out),
@@ -230,8 +253,7 @@ fn all_written(record: PathRecord, places: &mut [u32], out: &mut Answer) -> io::
     for number in 0..routes_asked(record.num_route_variations()) {
         all_route(record, number, places, out)?;
     }
-    cases::put_text(b"|", out);
-    cases::put_numbers(b"", places, out);
+    put_by(|w| write_behind(b'|', places, w), out);
     Ok(())
 }
 

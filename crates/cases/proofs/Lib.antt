@@ -1,1 +1,2 @@
 pub mod CaseLaws
+mod AnswerLaws

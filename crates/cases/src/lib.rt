@@ -12,6 +12,9 @@
 ghost use Rattle.std.specs.Prelude.{◌≡◌, ◌<◌, ◌==◌, cond, codes, length, position, take, IfOk};
 ghost use Rattle.std.specs.Io.{ReadsAtMost};
 ghost use Rattle.scan.specs.Search.{equal};
+ghost use Rattle.decimal_display.specs.Printed.{decimal};
+ghost use Rattle.output.specs.Writing.{Writes};
+ghost use Rattle.cases.specs.Answers.{marked, hex_digit, in_hex};
 ghost use Rattle.cases.specs.Cases.{part_of, shown_or, float_of, answer_of, counted};
 
 use output::Writer;
@@ -171,64 +174,37 @@ impl<T: fmt::Display> fmt::Display for Marked<'_, T> {
     }
 }
 
-// What follows is for answers of many numbers: `write!` goes through the formatter for each, and so
-// took most of a program's time.
-
-// What f writes at the end of an answer, as far as there is room.
-fn put_by<F: FnOnce(&mut Writer)>(f: F, out: &mut Answer)
-    requires { F.IsAlwaysCallable f }
-{
-    let at = out.position() as usize;
-    let mut w = Writer {
-        out: out.get_mut(),
-        at,
-    };
-    f(&mut w);
-    let at = w.at;
-    out.set_position(at as u64);
-}
-
-pub fn put_text(s: &[u8], out: &mut Answer) {
-    put_by(|w| w.bytes(s), out);
-}
-
-pub fn put_number(n: u64, out: &mut Answer) {
-    put_by(|w| decimal_display::write_u64(n, w), out);
-}
+// The two that follow are for answers of many numbers: `write!` goes through the formatter for each,
+// which took nearly half of a program's time.
 
 // The values of a list, each after the mark.
-pub fn put_numbers(mark: &[u8], values: &[u32], out: &mut Answer) {
-    put_by(
-        |w| {
-            for value in values {
-                w.bytes(mark);
-                decimal_display::write_u32(*value, w);
-            }
-        },
-        out,
-    );
+pub fn write_numbers(mark: &[u8], values: &[u32], w: &mut Writer)
+    ensures { Writes (marked mark.now values.now) w.old w.new }
+{
+    for value in values {
+        w.bytes(mark);
+        decimal_display::write_u32(*value, w);
+    }
 }
 
 fn hex_digit(n: u8) -> u8
     requires { n < 16 }
+    ensures { result ≡ hex_digit n }
 {
     if n < 10 { b'0' + n } else { b'a' - 10 + n }
 }
 
 // Bytes in hexadecimal, '-' for none.
-pub fn put_hex(s: &[u8], out: &mut Answer) {
+pub fn write_hex(s: &[u8], w: &mut Writer)
+    ensures { Writes (in_hex s.now) w.old w.new }
+{
     if s.is_empty() {
-        return put_text(b"-", out);
+        return w.byte(b'-');
     }
-    put_by(
-        |w| {
-            for b in s {
-                w.byte(hex_digit(*b / 16));
-                w.byte(hex_digit(*b % 16));
-            }
-        },
-        out,
-    );
+    for b in s {
+        w.byte(hex_digit(*b / 16));
+        w.byte(hex_digit(*b % 16));
+    }
 }
 
 // A value, or the text where there is none.

@@ -13,16 +13,26 @@ use borrow.Author.Tests.{le-ltb, lt-ltb, lt-leb, le-leb, eq-eqb, ne_eqb, leb-tru
 use Rattle.decimal_display.specs.Printed.{decimal}
 use Rattle.output.specs.Writing.{Writes}
 use Rattle.output.specs.declared.Writer.{Writer}
-use Rattle.decimal_display.proofs.Printed.{digits_most}
+use Rattle.decimal_display.proofs.Printed.{decimal_short, decimal_long, digits_most}
 use Rattle.output.proofs.Writing.{then, nothing, Left, next_left, none_left}
 use Rattle.ip_display.specs.Groups.{groups_of, counted, zeros, longest, first_run}
 use Rattle.ip_display.specs.Text.{before_dot, dotted, hex_byte, hexes, hex, behind_colons, joined, shortened, plain, is_mapped, mapped, ipv6_text}
 
-pub low_digit : (d : ℕ) → d < 10 → 48 + d ≡ hex_byte d
-low_digit d h = simp (lt-ltb d 10 h)
+-- the table of the digits: a list of f 0, f 1 and so on has f i at the place i
+listed : (ℕ → ℕ) → ℕ → List ℕ
+listed f zero = []
+listed f (suc n) = f 0 ∷ listed (λ i. f (suc i)) n
 
-pub high_digit : (d : ℕ) → 10 ≤ d → 87 + d ≡ hex_byte d
-high_digit d h = simp (le-ltb d 10 h)
+listed_at : (f : ℕ → ℕ) (n i : ℕ) → i < n → get_or (listed f n) i 0 ≡ f i
+unfolding listed
+listed_at f zero i h = absurd (omega arith)
+listed_at f (suc n) zero h = refl
+listed_at f (suc n) (suc i) h = listed_at (λ j. f (suc j)) n i (omega arith)
+
+pub digit_of : (d : ℕ) → d < 16
+    → get_or (48 ∷ 49 ∷ 50 ∷ 51 ∷ 52 ∷ 53 ∷ 54 ∷ 55 ∷ 56 ∷ 57 ∷ 97 ∷ 98 ∷ 99 ∷ 100 ∷ 101 ∷ 102 ∷ []) d 0 ≡ hex_byte d
+unfolding listed
+digit_of d h = listed_at hex_byte 16 d h
 
 -- a group by its number of digits
 hex_long : (k n : ℕ) → 16 ≤ n → hexes (suc k) n ≡ hexes k (n / 16) ++ (hex_byte (n % 16) ∷ [])
@@ -72,6 +82,15 @@ module _ (g b c d : ℕ) (eb : b ≡ hex_byte (g / 256 % 16)) (ec : c ≡ hex_by
 -- what is written is a text
 pub as_text : (t u : List ℕ) (w v : Writer) → t ≡ u → Writes t w v → Writes u w v
 as_text t u w v e f = rw (← e) f
+
+-- an octet by its number of digits
+pub octet_2 : (o : ℕ) → 10 ≤ o → o < 100 → (48 + o / 10) ∷ (48 + o % 10) ∷ [] ≡ decimal o
+octet_2 o h l = rw (decimal_long o h, decimal_short (o / 10) (omega arith))
+
+pub octet_3 : (o : ℕ) → 100 ≤ o → o < 256 → (48 + o / 100) ∷ (48 + o / 10 % 10) ∷ (48 + o % 10) ∷ [] ≡ decimal o
+octet_3 o h l =
+    let z : o / 10 / 10 ≡ o / 100 = omega arith in
+    rw (decimal_long o (omega arith), decimal_long (o / 10) (omega arith), z, decimal_short (o / 100) (omega arith))
 
 pub dotted_written : (n : ℕ) (w₀ w₁ w₂ w₃ w₄ : Writer) → Writes (before_dot (n / 16777216 % 256)) w₀ w₁ → Writes (before_dot (n / 65536 % 256)) w₁ w₂
     → Writes (before_dot (n / 256 % 256)) w₂ w₃ → Writes (decimal (n % 256)) w₃ w₄ → Writes (dotted n) w₀ w₄

@@ -9,20 +9,19 @@ ghost use Rattle.ip_display.specs.Text.{before_dot, dotted, hex_byte, hex, joine
 
 use output::Writer;
 
-#[tactic(auto, using(crate::proofs::Writing::low_digit, crate::proofs::Writing::high_digit))]
+const DIGITS: [u8; 16] = *b"0123456789abcdef";
+
+#[tactic(auto, using(crate::proofs::Writing::digit_of))]
 fn hex_byte(d: u16) -> u8
     requires { d < 16 }
     ensures { result ≡ hex_byte d }
 {
-    if d < 10 {
-        b'0' + d as u8
-    } else {
-        b'a' - 10 + d as u8
-    }
+    DIGITS[usize::from(d)]
 }
 
-// A group's four digits without the zeros in front. Fewer than four are written byte by byte: made
-// into an array of two or three, they would be stored one by one and read together at once.
+// A group's four digits without the zeros in front, byte by byte: made into an array, they would be
+// stored one by one and read together at once.
+#[inline(always)]
 fn write_hex(g: u16, w: &mut Writer)
     ensures { Writes (hex g) w.old w.new }
 {
@@ -37,20 +36,32 @@ fn write_hex(g: u16, w: &mut Writer)
             w.byte(hex_byte(g / 16 % 16));
             w.byte(hex_byte(g % 16));
         }
-        _ => w.bytes(&[
-            hex_byte(g / 4096),
-            hex_byte(g / 256 % 16),
-            hex_byte(g / 16 % 16),
-            hex_byte(g % 16),
-        ]),
+        _ => {
+            w.byte(hex_byte(g / 4096));
+            w.byte(hex_byte(g / 256 % 16));
+            w.byte(hex_byte(g / 16 % 16));
+            w.byte(hex_byte(g % 16));
+        }
     }
 }
 
+// An octet has one, two or three digits, so nothing is counted first and there is no loop.
 #[inline(always)]
 fn write_octet(o: u8, w: &mut Writer)
     ensures { Writes (decimal o) w.old w.new }
 {
-    decimal_display::write_u32(u32::from(o), w);
+    match o {
+        0..10 => w.byte(b'0' + o),
+        10..100 => {
+            w.byte(b'0' + o / 10);
+            w.byte(b'0' + o % 10);
+        }
+        _ => {
+            w.byte(b'0' + o / 100);
+            w.byte(b'0' + o / 10 % 10);
+            w.byte(b'0' + o % 10);
+        }
+    }
 }
 
 #[inline(always)]
@@ -61,29 +72,41 @@ fn write_before_dot(o: u8, w: &mut Writer)
     w.byte(b'.');
 }
 
-#[inline(always)]
+// It writes with a writer of its own, which can stay in registers.
+#[inline(never)]
 pub fn write_ipv4(n: u32, w: &mut Writer)
     ensures { Writes (dotted n) w.old w.new }
 {
     let [a, b, c, d] = n.to_be_bytes();
-    write_before_dot(a, w);
-    write_before_dot(b, w);
-    write_before_dot(c, w);
-    write_octet(d, w);
+    let mut v = Writer {
+        out: w.out,
+        at: w.at,
+    };
+    write_before_dot(a, &mut v);
+    write_before_dot(b, &mut v);
+    write_before_dot(c, &mut v);
+    write_octet(d, &mut v);
+    w.at = v.at;
 }
 
-// The groups of g with ':' between them.
+// The groups of g with ':' between them, by a writer of its own too.
+#[inline(never)]
 fn write_groups(g: &[u16], w: &mut Writer)
     ensures { Writes (joined g.now) w.old w.new }
 {
     let Some((first, rest)) = g.split_first() else {
         return;
     };
-    write_hex(*first, w);
+    let mut v = Writer {
+        out: w.out,
+        at: w.at,
+    };
+    write_hex(*first, &mut v);
     for h in rest {
-        w.byte(b':');
-        write_hex(*h, w);
+        v.byte(b':');
+        write_hex(*h, &mut v);
     }
+    w.at = v.at;
 }
 
 // How many zero groups a list begins with, if its first group is g and the rest begins with n.

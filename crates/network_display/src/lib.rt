@@ -16,18 +16,16 @@ use output::{PutError, Writer};
 pub fn write_address(a: IpAddr, w: &mut Writer)
     ensures { Writes (address_text a) w.old w.new }
 {
+    // Both are lent another writer, so that ours can stay in registers.
+    let mut v = Writer {
+        out: w.out,
+        at: w.at,
+    };
     match a {
-        IpAddr::V4(n) => ip_display::write_ipv4(n, w),
-        IpAddr::V6(u, l) => {
-            // Lent a writer of its own, so that ours can stay in registers.
-            let mut v = Writer {
-                out: w.out,
-                at: w.at,
-            };
-            ip_display::write_ipv6(u, l, &mut v);
-            w.at = v.at;
-        }
+        IpAddr::V4(n) => ip_display::write_ipv4(n, &mut v),
+        IpAddr::V6(u, l) => ip_display::write_ipv6(u, l, &mut v),
     }
+    w.at = v.at;
 }
 
 pub fn write_prefix(p: NetworkPrefix, w: &mut Writer)

@@ -33,4 +33,4 @@ returns-in_default c =
       c.hex_byte-in_default-3.ensures,
       c.hex_byte-in_default-4.ensures,
     ))
-    c.bytes.ensures
+    (then (then (then c.byte-in_default.ensures c.byte-in_default-2.ensures) c.byte-in_default-3.ensures) c.byte-in_default-4.ensures)
