@@ -12,9 +12,8 @@
 ghost use Rattle.std.specs.Prelude.{◌≡◌, ◌<◌, ◌==◌, cond, codes, length, position, take, IfOk};
 ghost use Rattle.std.specs.Io.{ReadsAtMost};
 ghost use Rattle.scan.specs.Search.{equal};
-ghost use Rattle.decimal_display.specs.Printed.{decimal};
 ghost use Rattle.output.specs.Writing.{Writes};
-ghost use Rattle.cases.specs.Answers.{marked, hex_digit, in_hex};
+ghost use Rattle.cases.specs.Answers.{each, marked, hex_digit, in_hex};
 ghost use Rattle.cases.specs.Cases.{part_of, shown_or, float_of, answer_of, counted};
 
 use output::Writer;
@@ -179,7 +178,7 @@ impl<T: fmt::Display> fmt::Display for Marked<'_, T> {
 
 // The values of a list, each after the mark.
 pub fn write_numbers(mark: &[u8], values: &[u32], w: &mut Writer)
-    ensures { Writes (marked mark.now values.now) w.old w.new }
+    ensures { Writes (each (marked mark.now) values.now) w.old w.new }
 {
     for value in values {
         w.bytes(mark);
